@@ -109,8 +109,10 @@ fn tell_weak_keys<R: Files + Eprint + AllocGlobal>(rt: &R, words: &[String], lab
     let Some(length) = read_front(rt, file.name, &mut text) else {
         return;
     };
-    for weak in weak_keys(rt.alloc(), file, &text[..length]).iter() {
-        let _ = eprintln!(rt; "tesla: {label}: {weak}");
+    let weak = weak_keys(rt.alloc(), file, &text[..length]);
+    text.fill(0);
+    for key in weak.iter() {
+        let _ = eprintln!(rt; "tesla: {label}: {key}");
     }
 }
 

@@ -21,12 +21,18 @@ pub struct FileSource<'a, R, F> {
     file: F,
     reporter: Reporter<'a, R>,
     front: [u8; FRONT],
+    // How much of the front is settled: all of it where nothing more is kept.
     length: usize,
 }
 
 impl<'a, R, F> FileSource<'a, R, F> {
-    /// A file under this name, which has not failed yet.
-    pub fn new(name: Text, file: F, reporter: Reporter<'a, R>) -> FileSource<'a, R, F>
+    /// A file under this name, which has not failed yet. Of one that is secret no byte is kept.
+    pub fn new(
+        name: Text,
+        file: F,
+        reporter: Reporter<'a, R>,
+        is_secret: bool,
+    ) -> FileSource<'a, R, F>
         ensures name { result.name ≡ name }
         ensures faults { result.faults ≡ 0 }
     {
@@ -36,11 +42,11 @@ impl<'a, R, F> FileSource<'a, R, F> {
             file,
             reporter,
             front: [0; FRONT],
-            length: 0,
+            length: if is_secret { FRONT } else { 0 },
         }
     }
 
-    /// The first bytes that were read of it, as many as are kept, and zeros behind them.
+    /// The first bytes that were read of it, as many as are kept, and zeros behind them. Zeros alone of a secret one.
     pub fn front(&self) -> [u8; FRONT] {
         self.front
     }

@@ -1,5 +1,6 @@
 pub mod SmallTexts
 pub mod Openings
+pub mod Behind
 pub mod Reported
 pub mod Consoles
 pub mod Printing

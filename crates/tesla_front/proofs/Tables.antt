@@ -14,7 +14,7 @@ use Rattle.tesla_front.specs.Run.{HasStatusCauses, Runs}
 use Rattle.tesla_front.specs.Table.{IsFirst, ReportsRun, RunsConsole, RunsLeaving, RunsTable, is_named}
 use Rattle.tesla_front.specs.declared.outcome.LiveRun.{LiveRun}
 use Rattle.tesla_front.specs.declared.outcome.Outcome.{Outcome}
-use Rattle.tesla_front.proofs.Consoles.{console_opened, live_console_opened}
+use Rattle.tesla_front.proofs.Consoles.{live_console_opened}
 use Rattle.tesla_front.proofs.Statuses.{own_status, status_causes}
 
 -- ---- the words
@@ -63,15 +63,22 @@ table_ran command Leaves usage words old opened done new last outcome reported (
       ran.others,
     )
 
--- so it is where the command is told no history
+-- what was run with the console is a run of its command, told what the desk has of clocks before and afterwards
+pub live_run : {D T : Type 0} (told : D → Told) (Calls : MutBor D → LiveRun T → MutBor D → Type 0) (command : Live → Live → Command) (usage : List ℕ)
+    (words : List (List ℕ)) (old new : D) (result : LiveRun T)
+    → ((opened done : MutBor D) (run : LiveRun T) → Calls opened run done → RunsAs (command (told opened.now).live (told done.now).live) words (told opened.now) (told done.now) (outcome_view run.outcome))
+    → RunsConsole told Calls usage old new result → Runs (command (told old).live (told new).live) usage words (told old) (told new) (outcome_view result.outcome)
+live_run told Calls command usage words old new result runs (inl none) = inl none.0
+live_run told Calls command usage words old new result runs (inr it) =
+    inr (live_console_opened command usage words (told old) (told it.opened.now) (told it.done.now) (told new) (outcome_view it.run.outcome)
+    (outcome_view result.outcome) it.written it.failed it.reports (runs it.opened it.done it.run it.runs))
+
+-- so it is where the command is told neither
 pub plain_run : {D T : Type 0} (told : D → Told) (Calls : MutBor D → LiveRun T → MutBor D → Type 0) (command : Command) (usage : List ℕ)
     (words : List (List ℕ)) (old new : D) (result : LiveRun T)
     → ((opened done : MutBor D) (run : LiveRun T) → Calls opened run done → RunsAs command words (told opened.now) (told done.now) (outcome_view run.outcome))
     → RunsConsole told Calls usage old new result → Runs command usage words (told old) (told new) (outcome_view result.outcome)
-plain_run told Calls command usage words old new result runs (inl none) = inl none.0
-plain_run told Calls command usage words old new result runs (inr it) =
-    inr (console_opened command usage words (told old) (told it.opened.now) (told it.done.now) (told new) (outcome_view it.run.outcome)
-    (outcome_view result.outcome) it.written it.failed it.reports (runs it.opened it.done it.run it.runs))
+plain_run told Calls command usage words old new result runs console = live_run told Calls (λ _ _. command) usage words old new result runs console
 
 -- where what is run with the console changes nothing that lives, the whole run changes nothing of it
 pub plain_live : {D T : Type 0} (told : D → Told) (Calls : MutBor D → LiveRun T → MutBor D → Type 0) (usage : List ℕ) (old new : D) (result : LiveRun T)

@@ -18,7 +18,7 @@ const PIECE: usize = 4096;
 /// is left are what there was. They are fewer than `most` only where the source ended.
 ///
 /// `Read` only where the source's count of faults rose, `NoMemory` where there was no room for the bytes. What
-/// was read before either is lost.
+/// was read before either is lost. Of what was read no copy stays but the one that is given, as it may be secret.
 pub fn read_up_to<S: Source>(alloc: Global, source: &mut S, most: usize) -> Result<Vec<u8>, Fault>
     ensures bytes { IfOk result (λ read. (bytes : List ℕ) → S.left source.old ≡ Some bytes → read.items ≡ take most bytes) }
     ensures left { IfOk result (λ read. S.left source.old ≡ after_bytes read.items (S.left source.new)) }
@@ -27,8 +27,30 @@ pub fn read_up_to<S: Source>(alloc: Global, source: &mut S, most: usize) -> Resu
     ensures name { S.name source.new ≡ S.name source.old }
     ensures kind { (result ≡ Err Fault.Write → ⊥) × (result ≡ Err Fault.Open → ⊥) }
 {
-    let mut bytes = Vec::new(alloc);
     let mut piece = [0u8; PIECE];
+    let read = read_by_pieces(alloc, source, most, &mut piece);
+    piece.fill(0);
+    read
+}
+
+// Reads as `read_up_to` does, each time into this room. What the first read may give is taken room for beforehand, so
+// that a short text isn't moved.
+fn read_by_pieces<S: Source>(
+    alloc: Global,
+    source: &mut S,
+    most: usize,
+    piece: &mut [u8; PIECE],
+) -> Result<Vec<u8>, Fault>
+    ensures bytes { IfOk result (λ read. (bytes : List ℕ) → S.left source.old ≡ Some bytes → read.items ≡ take most bytes) }
+    ensures left { IfOk result (λ read. S.left source.old ≡ after_bytes read.items (S.left source.new)) }
+    ensures most { IfOk result (λ read. vec_len read ≤ most) }
+    ensures cause { HasCause (S.faults source.old) (S.faults source.new) (result ≡ Err Fault.Read) }
+    ensures name { S.name source.new ≡ S.name source.old }
+    ensures kind { (result ≡ Err Fault.Write → ⊥) × (result ≡ Err Fault.Open → ⊥) }
+{
+    let Ok(mut bytes) = Vec::with_capacity(alloc, most.min(PIECE)) else {
+        return Err(Fault::NoMemory);
+    };
     while bytes.len() < most {
         let room = (most - bytes.len()).min(PIECE);
         if read_on(source, &mut piece[..room], &mut bytes)? == 0 {

@@ -30,7 +30,7 @@ fn seeds_of(alloc: Global, text: &[u8], count: u8) -> Result<Seeds, Stop>
 }
 
 /// The `count` seeds under a name. The file is opened, read and closed, and then judged; of a longer file the first
-/// 4,097 bytes are read, which tell that it is too long.
+/// 4,097 bytes are read, which tell that it is too long. The text is overwritten before this returns.
 ///
 /// `Refused` with the first refused line where the file's text spells other seeds or none, and `Failed` as
 /// `read_file` fails. Neither tells anything of a seed.
@@ -50,7 +50,11 @@ pub fn seeds_under<D: Environment>(
     ensures causes { StopCauses result (D.told desk.old).faults (D.told desk.new).faults }
 {
     match read_file(alloc, name, MOST, desk) {
-        Ok(text) => seeds_of(alloc, text.as_slice(), count),
+        Ok(mut text) => {
+            let judged = seeds_of(alloc, text.as_slice(), count);
+            text.as_mut_slice().fill(0);
+            judged
+        }
         Err(fault) => Err(Stop::Failed(fault)),
     }
 }

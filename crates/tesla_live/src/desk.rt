@@ -188,8 +188,9 @@ where
         let number = take_number(&mut self.numbers.sources);
         match self.opened.open(self.rt, name) {
             Ok(Opened { file, mode }) => {
-                self.tell_readable(self.command.secret() == Some(number), name, mode);
-                Ok(FileSource::new(source_name, file, self.reporter()))
+                let is_secret = self.command.secret() == Some(number);
+                self.tell_readable(is_secret, name, mode);
+                Ok(FileSource::new(source_name, file, self.reporter(), is_secret))
             }
             Err(cause) => {
                 self.tell_unopened("open to read", name, &cause);

@@ -41,7 +41,8 @@ use Rattle.tesla_run_feed.specs.Arguments.{FeedArguments, IsFeedForm, files_of_f
 use Rattle.tesla_run_feed.specs.Feeding.{EndsAs, FeedsLink, FeedsOrEnds, FindsEnd, FindsOver, HoldsStatus, SendPosts, TouchesLive, status_page}
 use Rattle.tesla_run_feed.specs.Lines.{outcome_with, stream_over}
 use Rattle.tesla_run_feed.specs.Steps.{FeedsFiles, FeedsReady, LacksSender, RefusesStatus, RunsLinked, TriesToFeed, WritesStatus}
-use Rattle.tesla_run_feed.proofs.Behind.{Behind, RefusedBehind, failed_back, failed_prefix, last_same, opens_prefix, refused_behind, status_behind}
+use Rattle.tesla_front.proofs.Behind.{failed_back, failed_prefix, opens_prefix}
+use Rattle.tesla_run_feed.proofs.Behind.{Behind, RefusedBehind, last_same, refused_behind, status_behind}
 use Rattle.tesla_run_feed.proofs.Ended.{end_read, ends_by, failed_either, no_open, read_end, write_end}
 use Rattle.tesla_run_feed.proofs.Mailed.{each_reported, faulty_marked, marked_faulty, names_kept, sends_posts}
 use Rattle.tesla_run_send.specs.Sender.{IsNoSender, wrong_line}

@@ -21,7 +21,8 @@ use Rattle.tesla_session.proofs.Opened.{refused_opens, refused_pages}
 use Rattle.tesla_run_receive.specs.Arguments.{AreOthers}
 use Rattle.tesla_run_receive.specs.Output.{TellsFailed}
 use Rattle.tesla_run_receive.specs.Running.{EndsBehind, OpensBehind, RefusesBehind, with_behind}
-use Rattle.tesla_run_receive.proofs.Outputs.{among_back, among_prefix, among_opened, are_files_more, failed_back, failed_prefix, failed_still, none_wanted, opens_prefix, opens_more, sink_after, sinks_same}
+use Rattle.tesla_front.proofs.Behind.{among_back, among_prefix, are_files_more, failed_back, failed_prefix, opens_more, opens_prefix}
+use Rattle.tesla_run_receive.proofs.Outputs.{among_opened, failed_still, none_wanted, sink_after, sinks_same}
 
 -- the output is no other file of the words
 abbrev pub IsApart : Option (List ℕ) → List (List ℕ) → Type 0

@@ -41,7 +41,8 @@ use Rattle.tesla_run_relay.specs.watch.Arguments.{IsWatchForm, WatchArguments, f
 use Rattle.tesla_run_relay.specs.watch.Steps.{IsUnread, LacksStatus, RunsLinked, RunsPosts, TellsStatus, WatchesRelay}
 use Rattle.tesla_run_relay.specs.watch.Watch.{RelaysWatched, StopsWatched, TouchesWatched, unless_failed, watch_relay}
 use Rattle.tesla_run_relay.specs.watch.Written.{HoldsStatus}
-use Rattle.tesla_run_relay.proofs.watch.Files.{are_files_more, failed_back, failed_page, failed_prefix, opens_more, opens_prefix, status_is}
+use Rattle.tesla_front.proofs.Behind.{are_files_more, failed_back, failed_prefix, opens_more, opens_prefix}
+use Rattle.tesla_run_relay.proofs.watch.Files.{failed_page, status_is}
 use Rattle.tesla_run_relay.proofs.watch.Told.{holds_status}
 
 -- ---- the files

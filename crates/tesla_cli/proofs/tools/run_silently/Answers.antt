@@ -4,7 +4,8 @@ use Rattle.tesla_front.specs.Command.{Command}
 use Rattle.tesla_front.specs.OutcomeView.{outcome_view}
 use Rattle.tesla_front.specs.Run.{Runs}
 use Rattle.tesla_cli.specs.Commands.{tool_of}
-use Rattle.tesla_cli.proofs.Clocks.{kept_run, live_run}
+use Rattle.tesla_front.proofs.Tables.{live_run}
+use Rattle.tesla_cli.proofs.Clocks.{kept_run}
 use Rattle.tesla_cli.proofs.tools.run_silently.Goals as goal
 
 pub returns-clause-runs : goal.returns-clause-runs

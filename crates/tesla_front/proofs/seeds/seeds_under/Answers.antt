@@ -7,12 +7,12 @@ use Rattle.tesla_front.proofs.seeds.seeds_under.Goals as goal
 
 pub returns-in-Ok-clause-found : goal.returns-in-Ok-clause-found
 returns-in-Ok-clause-found g c =
-    found_in (IsSeedsText c.args.count) MOST _ _ _ (seeds_of_prefix c.args.count MOST (lit< tt)) (subst (λ (read : List ℕ). ReadsFile MOST ((g.D.Environment.told c.args.desk.now).page c.args.name.now) read) (sym c.as_slice.ensures.value) c.in-Ok.ensures.told) c.seeds_of.ensures.found
+    found_in (IsSeedsText c.args.count) MOST _ _ _ (seeds_of_prefix c.args.count MOST (lit< tt)) (subst (λ (read : List ℕ). ReadsFile MOST ((g.D.Environment.told c.args.desk.now).page c.args.name.now) read) (sym c.as_slice.ensures.value) c.in-Ok.ensures.told) c.seeds_of-judged.ensures.found
 
 pub returns-in-Ok-clause-refused : goal.returns-in-Ok-clause-refused
 returns-in-Ok-clause-refused g c =
-    refused_in (IsNoSeedsText c.args.count) MOST _ _ _ (no_seeds_of_prefix c.args.count MOST (lit< tt)) (seeds_memory c.args.count) (subst (λ (read : List ℕ). ReadsFile MOST ((g.D.Environment.told c.args.desk.now).page c.args.name.now) read) (sym c.as_slice.ensures.value) c.in-Ok.ensures.told) c.seeds_of.ensures.refused
+    refused_in (IsNoSeedsText c.args.count) MOST _ _ _ (no_seeds_of_prefix c.args.count MOST (lit< tt)) (seeds_memory c.args.count) (subst (λ (read : List ℕ). ReadsFile MOST ((g.D.Environment.told c.args.desk.now).page c.args.name.now) read) (sym c.as_slice.ensures.value) c.in-Ok.ensures.told) c.seeds_of-judged.ensures.refused
 
 pub returns-in-Ok-clause-causes : goal.returns-in-Ok-clause-causes
 returns-in-Ok-clause-causes g c =
-    text_causes (IsNoSeedsText c.args.count) _ _ _ _ (seeds_memory c.args.count) (read_causes c.in-Ok.text _ _ c.in-Ok.ensures.causes) c.seeds_of.ensures.refused
+    text_causes (IsNoSeedsText c.args.count) _ _ _ _ (seeds_memory c.args.count) (read_causes c.in-Ok.text _ _ c.in-Ok.ensures.causes) c.seeds_of-judged.ensures.refused
