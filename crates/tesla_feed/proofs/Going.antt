@@ -61,7 +61,7 @@ post_more datagrams datagram first before now true true sends hands = record {
 }
 post_more datagrams datagram first before now true false sends hands = (let same : false ≡ true = (hands.stays refl).0 in absurd (differ same))
 
-posts_more : (datagrams : List (List ℕ)) (datagram : List ℕ) (firsts befores nows : List PostSeen) (failed failed_now : List Bool) → SendPosts datagrams firsts befores failed → HandPosts datagram befores nows failed failed_now → SendPosts (datagrams ++ datagram ∷ []) firsts nows failed_now
+pub posts_more : (datagrams : List (List ℕ)) (datagram : List ℕ) (firsts befores nows : List PostSeen) (failed failed_now : List Bool) → SendPosts datagrams firsts befores failed → HandPosts datagram befores nows failed failed_now → SendPosts (datagrams ++ datagram ∷ []) firsts nows failed_now
 posts_more datagrams datagram [] [] [] [] [] sends hands = tt
 posts_more datagrams datagram (first ∷ firsts) (before ∷ befores) (now ∷ nows) (failed ∷ others) (failed_now ∷ others_now) sends hands =
     (post_more datagrams datagram first before now failed failed_now sends.0 hands.0, posts_more datagrams datagram firsts befores nows others others_now sends.1 hands.1)
@@ -76,7 +76,7 @@ posts_more datagrams datagram (first ∷ firsts) (before ∷ befores) (now ∷ n
 
 -- ---- calls
 
-datagrams_more : (stream : Stream) (before log : List Call) (call : Call) → datagrams_from stream before (log ++ call ∷ []) ≡ datagrams_from stream before log ++ datagram_of stream (before ++ log) call
+pub datagrams_more : (stream : Stream) (before log : List Call) (call : Call) → datagrams_from stream before (log ++ call ∷ []) ≡ datagrams_from stream before log ++ datagram_of stream (before ++ log) call
 datagrams_more stream before [] call = append-nil (datagram_of stream before call) ∙ ap (λ (b : List Call). datagram_of stream b call) (sym (append-nil before))
 datagrams_more stream before (first ∷ log) call =
     ap (λ (ds : List (List ℕ)). datagram_of stream before first ++ ds) (datagrams_more stream (before ++ first ∷ []) log call)

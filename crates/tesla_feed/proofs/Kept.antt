@@ -16,7 +16,7 @@ use Rattle.tesla_sender.specs.declared.refusal.SendRefusal.TheVariants as unsent
 use Rattle.tesla_sender.proofs.Logs.{named, spells_answered}
 use Rattle.tesla_desk.specs.declared.link.Letter.TheVariants as letters
 use Rattle.tesla_feed.specs.Fed.{counts_of, Received, Feeding, after_event, after_judged, after_none, datagram_of, has_begun, is_all_disclosed, is_due, is_unread, last_message, latest_from, message_interval, name_from, tells_more, disclosed_by, with_call, with_refusal, with_unread}
-use Rattle.tesla_feed.specs.Steps.{Makes, StandsFor, after_item, after_refusal, after_unread, is_due_after, is_disclosed_after, one_more}
+use Rattle.tesla_feed.specs.Steps.{Makes, Says, StandsFor, after_item, after_refusal, after_unread, is_due_after, is_disclosed_after, one_more}
 use Rattle.tesla_feed.specs.declared.counts.FeedCounts.{FeedCounts}
 use Rattle.tesla_feed.specs.declared.feeder.Feeder.{Feeder}
 use Rattle.tesla_feed.proofs.Counting.{disclosure_counts, message_counts, refused_counts, unread_counts}
@@ -378,39 +378,51 @@ pub read_judged : (stream : Stream) (first : ℕ) (made : Feeding) (reading : �
 read_judged stream first made reading payload read = ap (λ (unread : Bool). if unread then with_unread made else after_judged stream first made reading payload (name_from stream.setup.times first made.log reading payload)) read
 
 -- a message is sent
-pub makes_message : (stream : Stream) (first : ℕ) (feeder now : Feeder) (made : Feeding) (reading : ℕ) (payload : List ℕ) (size : ℕ) (before : List ℕ) → is_unread reading ≡ false → StandsFor stream first feeder made
+pub says_sent : (stream : Stream) (first : ℕ) (feeder now : Feeder) (made : Feeding) (reading : ℕ) (payload : List ℕ) (size : ℕ) (before : List ℕ) → StandsFor stream first feeder made
     → Answers (ok_size size) (returned_message feeder.sender reading payload) before now.frame → now.sender ≡ sent_in feeder.sender (interval_at stream.setup.times reading) now.sender.left
     → now.first ≡ feeder.first → now.latest ≡ interval_at stream.setup.times reading → now.message ≡ interval_at stream.setup.times reading → now.counts ≡ record feeder.counts { messages = one_more feeder.counts.messages }
-    → Makes stream first made (after_event stream first made (Received reading (letters.Datagram payload))) now (Some size)
-makes_message stream first feeder now made reading payload size before read stands answers sender first_is latest message counts =
+    → Says stream first made reading payload now (ok_size size)
+says_sent stream first feeder now made reading payload size before stands answers sender first_is latest message counts =
     let times = stream.setup.times in
     let old = feeder.sender in
     let told : returned_message old reading payload ≡ framed stream payload (name_after times old.latest (number_at old.latest old.used (interval_at times reading)) reading payload) = ap (λ (s : Stream). framed s payload (name_after s.setup.times old.latest (number_at old.latest old.used (interval_at s.setup.times reading)) reading payload)) stands.stream_is in
     let P : Result Frame SendRefusal → Type 0 = λ m. Answers (ok_size size) m before now.frame in
     let found = message_datagram stream first feeder made reading payload size before now.frame stands (subst P told answers) in
-    let Q : Feeding → Type 0 = λ a. Makes stream first made a now (Some size) in
-    subst Q (sym (read_judged stream first made reading payload read ∙ ap (after_judged stream first made reading payload) found.1)) (record {
-      stands = message_stands stream first feeder now made reading payload found.0 stands found.1 sender first_is latest message counts;
-      adds = (Message reading payload, refl, found.2);
-    })
+    (found.0, found.1, message_stands stream first feeder now made reading payload found.0 stands found.1 sender first_is latest message counts, found.2)
 
 -- a feeder whose sender is this one, with this in its room and these counts
 abbrev pub feeder_with : Feeder → State → List ℕ → FeedCounts → Feeder
 feeder_with feeder sender frame counts = record { sender = sender; frame = frame; first = feeder.first; latest = feeder.latest; message = feeder.message; reading = feeder.reading; counts = counts }
 
--- a message is refused, and a disclosure may be due
-pub makes_refused : (feeder now : Feeder) (made : Feeding) (reading : ℕ) (payload : List ℕ) (refusal : SendRefusal) (frame : List ℕ) (sender : State) (counts : FeedCounts) (result : Option ℕ) → is_unread reading ≡ false → StandsFor feeder.sender.stream feeder.first feeder made
+-- a message is refused
+pub says_refused : (feeder : Feeder) (made : Feeding) (reading : ℕ) (payload : List ℕ) (refusal : SendRefusal) (frame : List ℕ) (sender : State) (counts : FeedCounts) → StandsFor feeder.sender.stream feeder.first feeder made
     → Answers (err_size refusal) (returned_message feeder.sender reading payload) feeder.frame frame → sender ≡ feeder.sender → counts ≡ after_refusal feeder.counts refusal
-    → ((mid : Feeding) → StandsFor sender.stream feeder.first (feeder_with feeder sender frame counts) mid → Makes sender.stream feeder.first mid (after_none sender.stream feeder.first mid reading) now result)
-    → Makes feeder.sender.stream feeder.first made (after_event feeder.sender.stream feeder.first made (Received reading (letters.Datagram payload))) now result
-makes_refused feeder now made reading payload refusal frame sender counts result read stands answers same counted discloses =
+    → Says feeder.sender.stream feeder.first made reading payload (feeder_with feeder sender frame counts) (err_size refusal)
+says_refused feeder made reading payload refusal frame sender counts stands answers same counted =
     let stream = feeder.sender.stream in
     let first = feeder.first in
     let found = message_refused stream first feeder made reading payload refusal feeder.frame frame stands answers in
-    let P : State → Type 0 = λ s. (mid : Feeding) → StandsFor s.stream first (feeder_with feeder s frame counts) mid → Makes s.stream first mid (after_none s.stream first mid reading) now result in
-    let makes = subst P same discloses (with_refusal made refusal) (refused_stands stream first feeder made refusal frame counts counted stands) in
+    let P : State → Type 0 = λ s. StandsFor stream first (feeder_with feeder s frame counts) (with_refusal made refusal) in
+    (found, subst P (sym same) (refused_stands stream first feeder made refusal frame counts counted stands))
+
+-- a message that was sent is all that was made
+pub judged_sent : (stream : Stream) (first : ℕ) (now : Feeder) (made : Feeding) (reading : ℕ) (payload : List ℕ) (size : ℕ) → is_unread reading ≡ false → Says stream first made reading payload now (ok_size size)
+    → Makes stream first made (after_event stream first made (Received reading (letters.Datagram payload))) now (Some size)
+judged_sent stream first now made reading payload size read says =
+    let Q : Feeding → Type 0 = λ a. Makes stream first made a now (Some size) in
+    subst Q (sym (read_judged stream first made reading payload read ∙ ap (after_judged stream first made reading payload) says.1)) (record { stands = says.2; adds = (Message reading payload, refl, says.3) })
+
+-- behind one that was refused a disclosure may be due
+pub judged_refused : (stream : Stream) (first : ℕ) (mid now : Feeder) (made : Feeding) (reading : ℕ) (payload : List ℕ) (refusal : SendRefusal) (result : Option ℕ) → is_unread reading ≡ false → Says stream first made reading payload mid (err_size refusal)
+    → ((m : Feeding) → StandsFor mid.sender.stream mid.first mid m → Makes mid.sender.stream mid.first m (after_none mid.sender.stream mid.first m reading) now result)
+    → Makes stream first made (after_event stream first made (Received reading (letters.Datagram payload))) now result
+judged_refused stream first mid now made reading payload refusal result read says discloses =
+    let it = with_refusal made refusal in
+    let P : Stream → Type 0 = λ s. StandsFor s mid.first mid it → Makes s mid.first it (after_none s mid.first it reading) now result in
+    let F : ℕ → Type 0 = λ f. StandsFor stream f mid it → Makes stream f it (after_none stream f it reading) now result in
+    let makes = subst F says.1.first_is (subst P says.1.stream_is (discloses it)) says.1 in
     let Q : Feeding → Type 0 = λ a. Makes stream first made a now result in
-    subst Q (sym (read_judged stream first made reading payload read ∙ ap (after_judged stream first made reading payload) found)) (record { stands = makes.stands; adds = makes.adds })
+    subst Q (sym (read_judged stream first made reading payload read ∙ ap (after_judged stream first made reading payload) says.0)) (record { stands = makes.stands; adds = makes.adds })
 
 -- what is made while the clock can't be read: a message is counted
 unread_made : (stream : Stream) (first : ℕ) (made : Feeding) (reading : ℕ) (bytes : List ℕ) → is_unread reading ≡ true → after_item stream first made reading (Some bytes) ≡ with_unread made

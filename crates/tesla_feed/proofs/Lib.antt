@@ -1,9 +1,9 @@
-mod Counting
+pub mod Counting
 pub mod Kept
-mod Given
-mod Noted
-mod Going
-mod Whole
-mod Permitted
+pub mod Given
+pub mod Noted
+pub mod Going
+pub mod Whole
+pub mod Permitted
 pub mod Logs
-mod Ended
+pub mod Ended

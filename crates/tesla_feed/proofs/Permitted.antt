@@ -34,7 +34,7 @@ sent_all (Some prefix) now datagrams n all none is =
 module _ {P : Type 0} (seen : P → PostSeen) (may_send : P → List ℕ → Bool) (datagrams : List (List ℕ))
     (datagram : List ℕ) where
   -- a post that tells to have sent these may send the datagram
-  abbrev MayNext : List (List ℕ) → Type 0
+  abbrev pub MayNext : List (List ℕ) → Type 0
   MayNext names = (post : P) → Contains names (seen post).name → IfSome (seen post).sent (λ all. all ≡ datagrams)
       → may_send post datagram ≡ true
 
@@ -46,7 +46,7 @@ module _ {P : Type 0} (seen : P → PostSeen) (may_send : P → List ℕ → Boo
       may post (subst (λ (name : List ℕ). Contains names name) (sym sends.name) named)
       (sent_all first.sent (seen post).sent datagrams sends.sends sends.many unsent sends.sent)
 
-  may_hand : (firsts : List PostSeen) (names : List (List ℕ)) (posts : List P) (failed : List Bool) → MayNext names
+  pub may_hand : (firsts : List PostSeen) (names : List (List ℕ)) (posts : List P) (failed : List Bool) → MayNext names
       → ((name : List ℕ) → Contains (map post_name firsts) name → Contains names name) → AreUnsent firsts
       → SendPosts datagrams firsts (map seen posts) failed → MayHand may_send datagram posts failed
   may_hand firsts names [] failed may named unsent sends = tt

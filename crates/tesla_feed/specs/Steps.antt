@@ -1,7 +1,8 @@
 -- What the inner steps of a feed come to.
-use Rattle.std.specs.Prelude.{◌≡◌, ℕ, ◌+◌, ◌-◌, ◌*◌, ◌^◌, ◌<◌, Bool, true, false, ◌&&◌, List, [], ◌∷◌, ◌++◌, length, map, min, nat_le, take, Option, Some, None, IfSome, if◌then◌else◌}
+use Rattle.std.specs.Prelude.{◌≡◌, ℕ, ◌+◌, ◌-◌, ◌*◌, ◌^◌, ◌<◌, Bool, true, false, ◌&&◌, List, [], ◌∷◌, ◌++◌, length, map, min, nat_le, take, Option, Some, None, IfSome, Result, Ok, Err, if◌then◌else◌}
 use Rattle.std.specs.List.{AllByRecursion, fold, list_all}
 use denote.Ref.{Bor}
+use Rattle.tesla_base.specs.declared.names.Name.{Name}
 use Rattle.tesla_clock.specs.Schedule.{Times}
 use Rattle.tesla_desk.specs.Clocks.{Gives, Ticking}
 use Rattle.tesla_desk.specs.Faults.{HasCause}
@@ -10,11 +11,11 @@ use Rattle.tesla_desk.specs.declared.link.Letter.{Letter}
 use Rattle.tesla_desk.specs.declared.link.Letter.TheVariants as letters
 use Rattle.tesla_relay.specs.Opened.{post_name}
 use Rattle.tesla_relay.specs.Posts.{PostSeen, with_datagrams}
-use Rattle.tesla_sender.specs.Made.{Call, Chain, Stream, chains_of, index_disclosed, latest_of, messages_of, tells_all, tells_newer}
+use Rattle.tesla_sender.specs.Made.{Call, Message, Chain, Stream, chains_of, index_disclosed, latest_of, messages_of, tells_all, tells_newer}
 use Rattle.tesla_sender.specs.declared.refusal.SendRefusal.{SendRefusal}
 use Rattle.tesla_sender.specs.declared.refusal.SendRefusal.TheVariants as unsent
 use Rattle.tesla_feed.specs.Due.{AreGiven, AreUnsent, MayNoteAll, MaySendDue, datagrams_by}
-use Rattle.tesla_feed.specs.Fed.{Event, Received, Feeding, after_event, after_none, counts_of, datagram_of, datagrams_of, first_interval, has_begun, has_ended, is_unread, last_message, latest_from, nothing_fed, reading_of, disclosed_by}
+use Rattle.tesla_feed.specs.Fed.{Event, Received, Feeding, after_event, after_none, counts_of, datagram_of, datagrams_of, first_interval, has_begun, has_ended, is_unread, last_message, latest_from, nothing_fed, name_from, reading_of, disclosed_by, with_call, with_refusal}
 use Rattle.tesla_feed.specs.Feed.{AreNeeded, Heard, SendPosts, received_of, has_failed, letter_of, rested_at}
 use Rattle.tesla_feed.specs.Notes.{Note, notes_from}
 use Rattle.tesla_feed.specs.declared.counts.FeedCounts.{FeedCounts}
@@ -78,6 +79,16 @@ Adds stream before now (Some size) frame = (call : Call) × (now ≡ before ++ c
 pub record Makes (stream : Stream) (first : ℕ) (made after : Feeding) (feeder : Feeder) (result : Option ℕ) : Type 0 where
   pub stands : StandsFor stream first feeder after
   pub adds : Adds stream made.log after.log result feeder.frame
+
+-- a message was judged: it was sent, and its frame was made; or it was refused, and none was
+abbrev pub Says : Stream → ℕ → Feeding → ℕ → List ℕ → Feeder → Result ℕ SendRefusal → Type 0
+Says stream first made reading payload feeder (Ok size) =
+    (name : Name) × (name_from stream.setup.times first made.log reading payload ≡ Ok name)
+    × StandsFor stream first feeder (with_call made (Message reading payload))
+    × (datagram_of stream made.log (Message reading payload) ≡ take size feeder.frame ∷ [])
+Says stream first made reading payload feeder (Err refusal) =
+    (name_from stream.setup.times first made.log reading payload ≡ Err refusal)
+    × StandsFor stream first feeder (with_refusal made refusal)
 
 -- ---- posts
 

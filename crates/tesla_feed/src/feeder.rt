@@ -1,17 +1,18 @@
 //! The sender of a feed: which calls are made of it, and what it refuses.
 
-ghost use Rattle.std.specs.Prelude.{◌≡◌, ◌+◌, ◌≤◌, [], false, IfSome};
+ghost use Rattle.std.specs.Prelude.{◌≡◌, ◌+◌, ◌≤◌, [], false, IfOk, IfSome};
 ghost use Rattle.tesla_sender.specs.Made.{interval_at};
 ghost use Rattle.tesla_sender.specs.Stands.{Stands};
 ghost use Rattle.tesla_feed.specs.Fed.{Received, Feeding, after_event, after_none, first_interval, has_begun, is_unread, nothing_fed};
-ghost use Rattle.tesla_feed.specs.Steps.{Makes, StandsFor, after_item, after_unread, bytes_in, is_due_after, is_disclosed_after, noted, until_begin};
+ghost use Rattle.tesla_feed.specs.Steps.{Makes, Says, StandsFor, after_item, after_unread, bytes_in, is_due_after, is_disclosed_after, noted, until_begin};
 ghost use Rattle.tesla_desk.specs.declared.link.Letter.TheVariants as letters;
 
 use crate::FeedCounts;
 use crate::readings::is_unread;
 use std::sync::ledger::Ledger;
 use tesla_base::{MOST_DATAGRAM, Steps};
-use tesla_sender::Sender;
+use tesla_clock::Schedule;
+use tesla_sender::{SendRefusal, Sender};
 
 /// A sender with its room for a frame, and what a feed remembers of the calls that it made.
 #[derive(Drop)]
@@ -56,6 +57,20 @@ impl Feeder {
         self.counts
     }
 
+    /// When the intervals of the stream begin, and how many there are.
+    pub fn schedule(&self) -> Schedule
+        ensures { result ≡ self.now.sender.stream.setup.times }
+    {
+        self.sender.schedule()
+    }
+
+    /// The interval of a reading of the clock, in microseconds: 0 before the start.
+    pub fn interval_at(&self, reading: u64) -> u64
+        ensures { result ≡ interval_at self.now.sender.stream.setup.times reading }
+    {
+        self.sender.interval_at(reading)
+    }
+
     /// Notes a reading of the clock, and tells whether the first interval has begun by it. Where the clock couldn't be
     /// read it hasn't, and nothing is noted.
     pub fn has_begun(&mut self, reading: u64) -> bool
@@ -81,6 +96,23 @@ impl Feeder {
         ensures makes { (made : Feeding) → StandsFor self.old.sender.stream self.old.first self.old made → Makes self.old.sender.stream self.old.first made (after_event self.old.sender.stream self.old.first made (Received reading (letters.Datagram payload.now))) self.new result }
         ensures room { IfSome result (λ length. length ≤ 2048) }
     {
+        match self.say(reading, payload, steps) {
+            Ok(length) => Some(length),
+            Err(_) => self.disclose(reading, steps),
+        }
+    }
+
+    /// Judges a message that came at this reading, makes its frame where it is sent, and gives the length of that. Else it
+    /// is counted as refused, and no frame is made.
+    pub fn say<L: Ledger>(
+        &mut self,
+        reading: u64,
+        payload: &[u8],
+        steps: &mut Steps<L>,
+    ) -> Result<usize, SendRefusal>
+        ensures says { (made : Feeding) → StandsFor self.old.sender.stream self.old.first self.old made → Says self.old.sender.stream self.old.first made reading payload.now self.new result }
+        ensures room { IfOk result (λ length. length ≤ 2048) }
+    {
         match self
             .sender
             .message(reading, payload, &mut self.frame, steps)
@@ -90,17 +122,18 @@ impl Feeder {
                 self.latest = self.sender.interval_at(reading);
                 self.message = self.latest;
                 self.counts.messages = self.counts.messages.saturating_add(1);
-                Some(length)
+                Ok(length)
             }
             Err(refusal) => {
                 self.counts.refuse(refusal);
-                self.disclose(reading, steps)
+                Err(refusal)
             }
         }
     }
 
-    // Makes the frame of a disclosure at this reading, where one is due, and gives its length. `None`: none is due.
-    fn disclose<L: Ledger>(&mut self, reading: u64, steps: &mut Steps<L>) -> Option<usize>
+    /// Makes the frame of a disclosure at this reading, where one is due, and gives its length. `None`: none is due. The
+    /// clock could be read.
+    pub fn disclose<L: Ledger>(&mut self, reading: u64, steps: &mut Steps<L>) -> Option<usize>
         requires read { is_unread reading ≡ false }
         ensures makes { (made : Feeding) → StandsFor self.old.sender.stream self.old.first self.old made → Makes self.old.sender.stream self.old.first made (after_none self.old.sender.stream self.old.first made reading) self.new result }
         ensures room { IfSome result (λ length. length ≤ 2048) }

@@ -1,17 +1,12 @@
-use Rattle.std.proofs.Common.{◌≡◌, ◌∙◌, ℕ, refl, ap}
-use Rattle.tesla_sender.specs.Made.{Stream, interval_at}
-use Rattle.tesla_feed.specs.declared.counts.FeedCounts.{FeedCounts}
-use Rattle.tesla_feed.proofs.Kept.{makes_message, makes_refused}
+use Rattle.tesla_feed.proofs.Kept.{judged_refused, judged_sent}
 use Rattle.tesla_feed.proofs.feeder.Feeder.message.Goals as goal
 
 pub returns-in-Ok-clause-makes : goal.returns-in-Ok-clause-makes
 returns-in-Ok-clause-makes g c = λ made stands.
     let a = c.args.self.now in
-    let counts = ap (λ (n : ℕ). let it : FeedCounts = record { messages = n; disclosures = a.counts.disclosures; too_long = a.counts.too_long; early = a.counts.early; over = a.counts.over; backward = a.counts.backward; full = a.counts.full; unread = a.counts.unread } in it) c.saturating_add-self.ensures in
-    let at : c.interval_at-self.result ≡ interval_at a.sender.stream.setup.times c.args.reading = c.interval_at-self.ensures ∙ ap (λ (s : Stream). interval_at s.setup.times c.args.reading) c.in-Ok.ensures.stream in
-    makes_message a.sender.stream a.first a _ made c.args.reading c.args.payload.now c.in-Ok.length a.frame c.requires.read stands c.in-Ok.ensures.returned c.in-Ok.ensures.after refl at at counts
+    judged_sent a.sender.stream a.first c.say.new.self made c.args.reading c.args.payload.now c.in-Ok.length c.requires.read (c.in-Ok.ensures.says made stands)
 
 pub returns-in-Err-clause-makes : goal.returns-in-Err-clause-makes
 returns-in-Err-clause-makes g c = λ made stands.
     let a = c.args.self.now in
-    makes_refused a _ made c.args.reading c.args.payload.now c.in-Err.refusal c.message.new.into c.message.new.self c.refuse.new.self _ c.requires.read stands c.in-Err.ensures.returned c.in-Err.ensures.refused.0 c.refuse.ensures c.disclose.ensures.makes
+    judged_refused a.sender.stream a.first c.say.new.self c.disclose.new.self made c.args.reading c.args.payload.now _ _ c.requires.read (c.in-Err.ensures.says made stands) c.disclose.ensures.makes
