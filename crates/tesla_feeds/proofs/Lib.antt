@@ -1,0 +1,5 @@
+mod Sending
+mod Parts
+mod Delays
+mod Lists
+mod Each
