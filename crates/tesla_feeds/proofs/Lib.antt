@@ -3,3 +3,5 @@ mod Parts
 mod Delays
 mod Lists
 mod Each
+mod Stages
+mod Alone

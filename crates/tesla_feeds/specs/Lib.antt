@@ -1,3 +1,5 @@
+pub mod Events
 pub mod Fed
+pub mod Laws
 pub mod Order
 pub mod Steps

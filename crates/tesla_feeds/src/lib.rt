@@ -2,11 +2,14 @@
 #![tactic(auto)]
 
 mod disclosing;
+mod events;
+pub mod laws;
 mod listed;
 mod order;
 mod stepping;
 
 pub use disclosing::disclose_all;
+pub use events::{Feeders, FeedsCounts};
 pub use listed::{Handover, ListedFeeder};
 pub use order::{Disorder, first_disorder, greatest_delay, has_window, is_in_window};
 pub use stepping::{hand_over_on, say_on};
