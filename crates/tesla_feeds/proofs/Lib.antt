@@ -5,3 +5,4 @@ mod Lists
 mod Each
 mod Stages
 mod Alone
+mod Whole

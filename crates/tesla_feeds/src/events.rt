@@ -3,9 +3,8 @@
 ghost use Rattle.std.specs.Prelude.{◌≡◌, ◌+◌, ◌-◌, ◌^◌, List, Some, false, length, map, min};
 ghost use Rattle.tesla_relay.specs.Posts.{PostSeen};
 ghost use Rattle.tesla_feed.specs.Fed.{is_unread};
-ghost use Rattle.tesla_feed.specs.Steps.{bytes_in};
-ghost use Rattle.tesla_feeds.specs.Fed.{Fed, after_handover, after_item, after_keys, after_message, after_missed};
-ghost use Rattle.tesla_feeds.specs.Events.{FeedsAll, MayStage, TakesAll, after_said, frames_handed, frames_item, frames_said, frames_told};
+ghost use Rattle.tesla_feeds.specs.Fed.{Fed, after_handover, after_keys, after_message};
+ghost use Rattle.tesla_feeds.specs.Events.{FeedsAll, MayStage, TakesAll, after_said, frames_handed, frames_said, frames_told};
 ghost use Rattle.tesla_feeds.specs.Steps.{many_where};
 
 use crate::disclosing::disclose_all;
@@ -14,7 +13,7 @@ use crate::stepping::{hand_over_on, say_on};
 use std::sync::ledger::Ledger;
 use tesla_base::Steps;
 use tesla_desk::Post;
-use tesla_feed::{FeedCounts, is_unread};
+use tesla_feed::FeedCounts;
 use tesla_sender::SendRefusal;
 
 /// What a feed over a list counts.
@@ -48,8 +47,8 @@ impl FeedsCounts {
         }
     }
 
-    // Counts a message that came while the clock couldn't be read.
-    fn count_unread(&mut self)
+    /// Counts a message that came while the clock couldn't be read.
+    pub fn count_unread(&mut self)
         ensures { self.new ≡ record { feed = record self.old.feed { unread = min (self.old.feed.unread + 1) (2 ^ 64 - 1) }; handovers = self.old.handovers } }
     {
         self.feed.unread = self.feed.unread.saturating_add(1);
@@ -63,8 +62,8 @@ pub struct Feeders {
     pub counts: FeedsCounts,
 }
 
-// Makes the handover that is due, and counts it. The clock could be read.
-fn hand_over<L: Ledger, P: Post>(
+/// Makes the handover that is due, and counts it. The clock could be read.
+pub fn hand_over<L: Ledger, P: Post>(
     feeders: &mut Feeders,
     reading: u64,
     posts: &mut [P],
@@ -88,8 +87,8 @@ fn hand_over<L: Ledger, P: Post>(
     feeders.counts.count_handover(sent);
 }
 
-// Makes the disclosures that are due, and counts them. The clock could be read.
-fn disclose<L: Ledger, P: Post>(
+/// Makes the disclosures that are due, and counts them. The clock could be read.
+pub fn disclose<L: Ledger, P: Post>(
     feeders: &mut Feeders,
     reading: u64,
     posts: &mut [P],
@@ -114,8 +113,8 @@ fn disclose<L: Ledger, P: Post>(
     )
 }
 
-// Judges a message that came, and counts it.
-fn say<L: Ledger, P: Post>(
+/// Judges a message that came, and counts it.
+pub fn say<L: Ledger, P: Post>(
     feeders: &mut Feeders,
     reading: u64,
     payload: &[u8],
