@@ -76,7 +76,7 @@ at_any (event ∷ events) = (tt, at_any events)
 
 -- ---- a feed's log is the log of a sender
 
-accepted_more : (stream : Stream) (before calls : List Call) (call : Call) → AreAcceptedAfter stream before calls → IsAccepted stream (before ++ calls) call → AreAcceptedAfter stream before (calls ++ call ∷ [])
+pub accepted_more : (stream : Stream) (before calls : List Call) (call : Call) → AreAcceptedAfter stream before calls → IsAccepted stream (before ++ calls) call → AreAcceptedAfter stream before (calls ++ call ∷ [])
 accepted_more stream before [] call all one = (subst (λ log. IsAccepted stream log call) (append-nil before) one, tt)
 accepted_more stream before (first ∷ calls) call all one =
     (all.0, accepted_more stream (before ++ first ∷ []) calls call all.1 (subst (λ log. IsAccepted stream log call) (sym (append_assoc before (first ∷ []) calls)) one))
@@ -87,13 +87,13 @@ ok_message made = IsOk made
 abbrev ok_disclosure : Result Frame DiscloseRefusal → Type 0
 ok_disclosure made = IsOk made
 
-message_accepted : (stream : Stream) (first : ℕ) (log : List Call) (reading : ℕ) (payload : List ℕ) (name : Name) → name_from stream.setup.times first log reading payload ≡ Ok name → IsAccepted stream log (Message reading payload)
+pub message_accepted : (stream : Stream) (first : ℕ) (log : List Call) (reading : ℕ) (payload : List ℕ) (name : Name) → name_from stream.setup.times first log reading payload ≡ Ok name → IsAccepted stream log (Message reading payload)
 unfolding made_message
 message_accepted stream first log reading payload name is =
     let made : made_message stream log reading payload ≡ Ok (message_frame stream.setup (chains_of stream) name payload) = ap (framed stream payload) (made_name stream first log reading payload name is) in
     subst ok_message (sym made) refl
 
-disclosure_accepted : (stream : Stream) (first : ℕ) (log : List Call) (reading : ℕ) → is_due stream first log reading ≡ true → IsAccepted stream log (Disclose reading)
+pub disclosure_accepted : (stream : Stream) (first : ℕ) (log : List Call) (reading : ℕ) → is_due stream first log reading ≡ true → IsAccepted stream log (Disclose reading)
 unfolding made_disclosure
 disclosure_accepted stream first log reading due =
     let tells = log_tells stream first log reading due in

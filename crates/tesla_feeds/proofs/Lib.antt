@@ -6,3 +6,4 @@ mod Each
 mod Stages
 mod Alone
 mod Whole
+mod Accepted

@@ -1,9 +1,14 @@
 //! The laws over feeds of lists, as contracts of functions that do nothing.
 
-ghost use Rattle.tesla_feeds.specs.Laws.{FeedsAlone};
+ghost use Rattle.tesla_feeds.specs.Laws.{FeedsAccepted, FeedsAlone};
 
 /// A feed over a list of one stream is a feed of that stream: its calls, its refusals and its frames are the same, and it
 /// makes no handover.
 pub fn alone()
     ensures { FeedsAlone }
+{}
+
+/// The log of each stream is the log of a sender of it: each call, a handover too, is accepted after those before it.
+pub fn accepted()
+    ensures { FeedsAccepted }
 {}
