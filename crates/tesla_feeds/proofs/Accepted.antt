@@ -1,16 +1,15 @@
 -- The log of each stream of a list is the log of a sender.
-use Rattle.std.proofs.Common.{◌≡◌, ℕ, Bool, true, false, List, [], ◌∷◌, ◌++◌, Option, Some, None, refl}
+use Rattle.std.proofs.Common.{◌≡◌, ℕ, Bool, true, false, List, [], ◌∷◌, Option, Some, None, refl}
 use Rattle.std.specs.Prelude.{Result, Ok, Err, if◌then◌else◌}
 use Rattle.std.specs.List.{AllByRecursion, fold}
 use Rattle.tesla_base.specs.declared.names.Name.{Name}
 use Rattle.tesla_commit.specs.Parts.{Parts}
 use Rattle.tesla_desk.specs.declared.link.Letter.TheVariants as letters
-use Rattle.tesla_sender.specs.Made.{Call, Message, Disclose, Stream}
-use Rattle.tesla_sender.specs.Stands.{AreAcceptedAfter}
+use Rattle.tesla_sender.specs.Made.{Message, Disclose, Stream}
 use Rattle.tesla_sender.specs.declared.refusal.SendRefusal.{SendRefusal}
 use Rattle.tesla_feed.specs.Fed.{Event, Received, Rested, is_due, is_unread, name_from}
 use Rattle.tesla_feed.proofs.Logs.{accepted_more, disclosure_accepted, message_accepted}
-use Rattle.tesla_feeds.specs.Fed.{AllDone, Done, Fed, Part, after_event, after_handover, after_item, after_keys, after_message, after_missed, after_read, call_done, disclosed, done_behind, done_each, done_on, fed_all, fed_from, handed_as, handed_over, handed_to, is_on, lasting, may_hand_over, nothing_done, one_done, opened_with, parts_at, said, said_as}
+use Rattle.tesla_feeds.specs.Fed.{Done, Fed, Part, after_event, after_handover, after_item, after_keys, after_message, after_missed, after_read, call_done, disclosed, done_behind, done_each, done_on, fed_from, handed_as, handed_over, handed_to, is_on, lasting, may_hand_over, nothing_done, one_done, opened_with, parts_at, said, said_as}
 use Rattle.tesla_feeds.specs.Laws.{FeedsAccepted, IsAcceptedPart}
 use Rattle.tesla_feeds.specs.Order.{handover_to}
 

@@ -1,5 +1,5 @@
 -- A feed over a list of one stream.
-use Rattle.std.proofs.Common.{◌≡◌, ◌∙◌, ℕ, Bool, true, false, List, [], ◌∷◌, ◌++◌, Option, Some, None, refl, sym, ap, append-nil, arith}
+use Rattle.std.proofs.Common.{◌≡◌, ◌∙◌, ℕ, Bool, true, false, List, [], ◌∷◌, ◌++◌, Some, None, refl, sym, ap, append-nil, arith}
 use Rattle.std.specs.Prelude.{Result, Ok, Err, if◌then◌else◌, ◌&&◌, ◌||◌, max, nat_lt, nat_le}
 use Rattle.std.specs.List.{fold, list_any}
 use Rattle.std.proofs.lemmas.Bool.{le-ltb}
@@ -13,7 +13,7 @@ use Rattle.tesla_feed.specs.Fed.{Event, Received, Rested, Feeding, datagram_of, 
 use Rattle.tesla_feed.specs.Fed as feed
 use Rattle.tesla_feed.proofs.Going.{datagrams_more}
 use Rattle.tesla_feed.proofs.Kept.{never_due}
-use Rattle.tesla_feeds.specs.Fed.{Fed, Part, after_event, after_handover, after_item, after_keys, after_message, after_missed, after_read, fed_all, fed_from, lasting, opened_with, parts_at, said_as, call_done, nothing_done, with_done, with_unread, one_done, both_done, none_done, Done}
+use Rattle.tesla_feeds.specs.Fed.{Fed, Part, after_event, after_handover, after_keys, after_message, after_missed, after_read, fed_from, parts_at, said_as, call_done, nothing_done, with_done, one_done, both_done, none_done, Done}
 use Rattle.tesla_feeds.specs.Laws.{FeedsAlone}
 
 -- one stream of which this was made

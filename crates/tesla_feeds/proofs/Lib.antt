@@ -7,3 +7,4 @@ mod Stages
 mod Alone
 mod Whole
 mod Accepted
+mod Ordered

@@ -1,21 +1,19 @@
 -- The stages of an event of a feed over a list.
-use Rattle.std.proofs.Common.{◌≡◌, ◌∙◌, ℕ, ◌+◌, ◌-◌, ◌^◌, min, Bool, true, false, List, [], ◌∷◌, ◌++◌, length, map, take, drop, Option, Some, None, refl, sym, ap, subst, append-nil, arith}
-use Rattle.std.specs.Prelude.{Result, Ok, Err, if◌then◌else◌}
+use Rattle.std.proofs.Common.{◌≡◌, ◌∙◌, ℕ, ◌+◌, ◌-◌, ◌^◌, min, Bool, true, false, List, [], ◌∷◌, ◌++◌, length, take, drop, Some, refl, sym, ap, append-nil, arith}
+use Rattle.std.specs.Prelude.{Result, Ok, Err}
 use Rattle.std.proofs.lemmas.List.{take-append-le, take_all}
-use Rattle.tesla_relay.specs.Counts.{counted}
 use Rattle.tesla_relay.specs.Posts.{PostSeen}
-use Rattle.tesla_sender.specs.Made.{Call, Message, Disclose}
+use Rattle.tesla_sender.specs.Made.{Call, Message}
 use Rattle.tesla_sender.specs.declared.refusal.SendRefusal.{SendRefusal}
-use Rattle.tesla_feed.specs.Fed.{Feeding, counts_of, is_unread}
+use Rattle.tesla_feed.specs.Fed.{Feeding, counts_of}
 use Rattle.tesla_feed.specs.declared.counts.FeedCounts.{FeedCounts}
 use Rattle.tesla_feed.proofs.Counting.{message_counts, refused_counts}
-use Rattle.tesla_feeds.specs.Events.{FeedAll, FeedsAll, MayStage, TakeAll, TakesAll, after_said, frames_behind, frames_handed, frames_read, frames_said, frames_told}
+use Rattle.tesla_feeds.specs.Events.{FeedAll, MayStage, TakeAll, after_said, frames_handed, frames_said, frames_told}
 use Rattle.tesla_feeds.specs.Fed.{Fed, Part, after_handover, after_keys, after_message, disclosed, done_each, done_on, handed_over, said}
 use Rattle.tesla_feeds.specs.Steps.{DoesAll, FeedParts, HandsAll, MayDo, calls_sent, many_where, refused_by, with_calls}
 use Rattle.tesla_feeds.specs.declared.events.Feeders.{Feeders}
 use Rattle.tesla_feeds.specs.declared.events.FeedsCounts.{FeedsCounts}
 use Rattle.tesla_feeds.specs.declared.listed.ListedFeeder.{ListedFeeder}
-use Rattle.tesla_feeds.proofs.Sending.{may_front, may_rest}
 
 -- the items of a table that is written back whole
 pub written_back : (len : ℕ) (now items : List ListedFeeder) → len ≡ length now → take len (now ++ drop (length now) items) ≡ now

@@ -1,11 +1,11 @@
 -- One event of a feed over a list, whole.
-use Rattle.std.proofs.Common.{◌≡◌, ◌∙◌, ℕ, Bool, true, false, List, [], ◌++◌, map, Option, Some, None, refl, sym, ap, subst}
+use Rattle.std.proofs.Common.{◌≡◌, ℕ, Bool, true, false, List, [], map, Option, None, sym, subst}
 use Rattle.std.specs.Prelude.{if◌then◌else◌}
 use Rattle.tesla_relay.specs.Posts.{PostSeen}
 use Rattle.tesla_feed.specs.Fed.{is_unread}
-use Rattle.tesla_feeds.specs.Events.{FeedsAll, MayStage, TakeAll, TakesAll, frames_behind, frames_handed, frames_item, frames_read, frames_said, frames_told}
+use Rattle.tesla_feeds.specs.Events.{FeedsAll, MayStage, TakesAll, frames_behind, frames_handed, frames_item, frames_read, frames_said, frames_told}
 use Rattle.tesla_feeds.specs.Fed.{Fed, after_handover, after_item, after_keys, after_message, after_missed, after_read}
-use Rattle.tesla_feeds.specs.Steps.{MaySendOn, SendOn}
+use Rattle.tesla_feeds.specs.Steps.{MaySendOn}
 use Rattle.tesla_feeds.specs.declared.events.Feeders.{Feeders}
 use Rattle.tesla_feeds.proofs.Sending.{may_front, may_rest, send_both, send_none}
 

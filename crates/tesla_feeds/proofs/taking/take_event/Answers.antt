@@ -1,7 +1,7 @@
 use Rattle.std.proofs.Common.{◌≡◌, ◌∙◌, false, sym}
 use Rattle.tesla_feed.specs.Fed.{is_unread}
 use Rattle.tesla_feed.specs.Steps.{bytes_in}
-use Rattle.tesla_feeds.proofs.Whole.{may_first, may_second, may_third, takes_missed, takes_read}
+use Rattle.tesla_feeds.proofs.Whole.{may_first, may_second, may_third, takes_read}
 use Rattle.tesla_feeds.proofs.taking.take_event.Goals as goal
 
 pub hand_over-requires-clause-may : goal.hand_over-requires-clause-may
