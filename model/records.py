@@ -1,4 +1,5 @@
-"""Release records: their one spelling, and the records that a text holds (FORMATS.md, "Release record")."""
+"""Release records: their one spelling, and the records that a text holds (FORMATS.md, "Release record", "Record of a
+follower")."""
 import collections
 import struct
 
@@ -6,7 +7,7 @@ import struct
 Record = collections.namedtuple("Record", "position interval number chain payload")
 # A message that was accepted on arrival.
 Accepted = collections.namedtuple("Accepted", "interval number payload")
-HEAD, ACCEPTED_HEAD = struct.Struct(">QIHBH"), struct.Struct(">IHH")
+HEAD, ACCEPTED_HEAD, FOLLOW_HEAD = struct.Struct(">QIHBH"), struct.Struct(">IHH"), struct.Struct(">BI")
 
 
 def release_text(record):
@@ -17,6 +18,12 @@ def release_text(record):
 def marked_text(mark, record):
     """The same behind one byte, which tells its epoch or its kind."""
     return bytes([mark]) + release_text(record)
+
+
+def follow_text(kind, epoch, record):
+    """The same behind what a follower writes before it: the kind, 0 of a packet that was released and 1 of a message that was
+    accepted on arrival, and the epoch."""
+    return FOLLOW_HEAD.pack(kind, epoch) + release_text(record)
 
 
 def accepted_text(message):
@@ -47,6 +54,15 @@ def marked_in(text):
     while place < len(text):
         mark, (record, place) = text[place], record_at(text, place + 1)
         yield mark, record
+
+
+def follows_in(text):
+    """The kind and the epoch before each record of a text that a follower wrote, and the record."""
+    place = 0
+    while place < len(text):
+        kind, epoch = FOLLOW_HEAD.unpack_from(text, place)
+        record, place = record_at(text, place + FOLLOW_HEAD.size)
+        yield kind, epoch, record
 
 
 def early_in(text):

@@ -1,4 +1,4 @@
-/* Reads the first bytes of a file as release records, for every number of them: cuts FILE plain|roll|early
+/* Reads the first bytes of a file as release records, for every number of them: cuts FILE plain|roll|early|follow
 
    The file is read into memory; for each number of its first bytes these are copied into memory of that size, read from
    there by tesla_take, and by tesla_read as a file. A line tells for each the records that came and what came behind them. */
@@ -44,7 +44,12 @@ static enum tesla_result read_all(enum tesla_form form, unsigned char *bytes, si
 
 static enum tesla_form form_named(const char *word)
 {
-    return strcmp(word, "roll") == 0 ? TESLA_ROLL : strcmp(word, "early") == 0 ? TESLA_EARLY : TESLA_PLAIN;
+    static const char *const names[] = {"plain", "roll", "early", "follow"};
+    int at = 0;
+    while (strcmp(word, names[at]) != 0)
+        if (++at == 4)
+            exit(3);
+    return (enum tesla_form)at;
 }
 
 int main(int count, char **words)

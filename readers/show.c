@@ -1,16 +1,20 @@
-/* Prints what the program released, one line for each record, as it comes: show FILE [roll|early]
-                                                                           show FILE,.. order SECONDS [PLACES]
+/* Prints what the program released, one line for each record, as it comes: show FILE [roll|early|follow [once]]
+                                                                           show FILE,.. [follow [once]] order SECONDS [PLACES]
 
-   FILE is what `tesla receive` or `tesla replay` writes, or a named pipe that `receive` writes to; with another word, what
-   that command writes. A line has the position, the interval, the number and the chain, and behind a colon the payload, in
-   which every byte that is no printable character of ASCII stands as \x and two digits, and \ as \\. Of `roll` the epoch
-   stands before it; of `early` a message that was accepted on arrival has `early` instead of position and chain.
+   FILE is what `tesla receive` or `tesla replay` writes, or a named pipe that `receive` writes to; with `roll` or `early` what
+   that command writes, and with `follow` what a follower writes. A line has the position, the interval, the number and the
+   chain, and behind a colon the payload, in which every byte that is no printable character of ASCII stands as \x and two
+   digits, and \ as \\. Of `roll` the epoch stands before it; of `early` a message that was accepted on arrival has `early`
+   instead of position and chain. Of a follower the kind and the epoch stand before it: the kind is 0 where a packet was
+   released, and 1 where a message was accepted on arrival, and then the chain is 255.
 
-   With `order` the records of all files, which are the sinks of one receiver in their order, come by interval and number. One
-   that doesn't follow the one before waits for those before it, at most so many seconds, as 0.5, while nothing can be read;
-   fewer than PLACES wait, 2 to 65,536, and 4,096 if not said. Standard error tells what was given up, as `gave up 3/1` or
-   `gave up 3/1 to 3/4`, each record that came behind its place and isn't printed, as `late 3/1`, and at the end how many of
-   each there were.
+   With `once` each message comes once, with its first record: the last 200,000 messages are known, of all files together.
+
+   With `order` the records of all files, which are the sinks of one receiver in their order, come by interval and number, and
+   of a follower by epoch before that. One that doesn't follow the one before waits for those before it, at most so many
+   seconds, as 0.5, while nothing can be read; fewer than PLACES wait, 2 to 65,536, and 4,096 if not said. Standard error tells
+   what was given up, as `gave up 3/1` or `gave up 3/1 to 3/4`, each record that came behind its place and isn't printed, as
+   `late 3/1`, and at the end how many of each there were. Of a follower the epoch stands before a name, as 2/3/1.
 
    The status is 0 where the last record was whole, 1 where a file ends within a record, 2 where something else stands in it, 3
    where it can't be read, and 4 where a line can't be written. Of several files it is that of the first that went wrong. */
@@ -24,6 +28,7 @@
 #include <time.h>
 #include <unistd.h>
 
+#include "tesla_once.h"
 #include "tesla_order.h"
 
 #define MOST_FILES 32
@@ -32,13 +37,26 @@
 static const char *const said[] = {"", "", "the file ends within a record", "something else than a record", "read fault"};
 static const int statuses[] = {0, 0, 1, 2, 3};
 
+/* What the words want: records of this form, and where `once` has room the first of each name alone. */
+static enum tesla_form form = TESLA_PLAIN;
+static struct tesla_once once;
+static struct tesla_known known[TESLA_MOST_NAMES];
+
+/* Whether a record is printed, which is asked once for each. */
+static int is_wanted(const struct tesla_release *record)
+{
+    return once.most == 0 || tesla_once_is_first(&once, record);
+}
+
 /* Prints a line. It answers 0 where it can't be written. */
-static int show(enum tesla_form form, const struct tesla_release *record)
+static int show(const struct tesla_release *record)
 {
     size_t at;
-    if (form == TESLA_ROLL)
-        printf("%u ", (unsigned)record->epoch);
-    if (record->accepted)
+    if (form == TESLA_FOLLOW)
+        printf("%u ", (unsigned)record->accepted);
+    if (form == TESLA_FOLLOW || form == TESLA_ROLL)
+        printf("%" PRIu32 " ", record->epoch);
+    if (form == TESLA_EARLY && record->accepted)
         printf("early %" PRIu32 " %u: ", record->interval, (unsigned)record->number);
     else
         printf("%" PRIu64 " %" PRIu32 " %u %u: ", record->position, record->interval, (unsigned)record->number,
@@ -61,7 +79,7 @@ static int show(enum tesla_form form, const struct tesla_release *record)
 }
 
 /* Prints the records of one file, as they come. */
-static int show_file(enum tesla_form form, const char *name)
+static int show_file(const char *name)
 {
     enum tesla_result result;
     struct tesla_release record;
@@ -72,7 +90,7 @@ static int show_file(enum tesla_form form, const char *name)
         return 3;
     }
     while ((result = tesla_read(form, file, room, &record)) == TESLA_RECORD)
-        if (!show(form, &record))
+        if (is_wanted(&record) && !show(&record))
             return 4;
     fclose(file);
     if (result != TESLA_END)
@@ -99,9 +117,19 @@ static uint64_t clock_now(void)
     return (uint64_t)now.tv_sec * 1000000 + (uint64_t)now.tv_nsec / 1000;
 }
 
+/* Tells the name of a message behind a word. */
+static void tell_name(const char *word, uint32_t epoch, uint32_t interval, uint16_t number)
+{
+    fprintf(stderr, "%s ", word);
+    if (form == TESLA_FOLLOW)
+        fprintf(stderr, "%" PRIu32 "/", epoch);
+    fprintf(stderr, "%" PRIu32 "/%u", interval, (unsigned)number);
+}
+
 static void tell_late(const struct tesla_release *record)
 {
-    fprintf(stderr, "late %" PRIu32 "/%u\n", record->interval, (unsigned)record->number);
+    tell_name("late", record->epoch, record->interval, record->number);
+    fprintf(stderr, "\n");
 }
 
 /* Prints what may be given. It answers 0 where a line can't be written. */
@@ -111,14 +139,14 @@ static int show_next(struct tesla_order *order, enum tesla_which which, uint64_t
     struct tesla_gap gap;
     enum tesla_step step;
     while ((step = tesla_order_next(order, which, now, &record, &gap)) != TESLA_NONE) {
-        if (step == TESLA_GIVE && !show(TESLA_PLAIN, &record))
+        if (step == TESLA_GIVE && !show(&record))
             return 0;
         if (step == TESLA_LATE)
             tell_late(&record);
         if (step == TESLA_GAP) {
-            fprintf(stderr, "gave up %" PRIu32 "/%u", gap.interval, (unsigned)gap.first);
+            tell_name("gave up", gap.epoch, gap.interval, gap.first);
             if (gap.first < gap.last)
-                fprintf(stderr, " to %" PRIu32 "/%u", gap.interval, (unsigned)gap.last);
+                tell_name(" to", gap.epoch, gap.interval, gap.last);
             fprintf(stderr, "\n");
         }
     }
@@ -132,12 +160,14 @@ static enum tesla_result take_records(struct tesla_order *order, struct input *i
     uint64_t now = clock_now();
     struct tesla_release record;
     enum tesla_result result;
-    while ((result = tesla_take(TESLA_PLAIN, input->bytes + at, input->size - at, &used, &record)) == TESLA_RECORD) {
+    while ((result = tesla_take(form, input->bytes + at, input->size - at, &used, &record)) == TESLA_RECORD) {
+        at += used;
+        if (!is_wanted(&record))
+            continue;
         if (tesla_order_put(order, &record, now) == TESLA_LATE)
             tell_late(&record);
         if (!show_next(order, TESLA_FOLLOWING, now))
             exit(4);
-        at += used;
     }
     memmove(input->bytes, input->bytes + at, input->size - at);
     input->size -= at;
@@ -250,21 +280,35 @@ static uint64_t seconds_of(const char *word)
     return (uint64_t)(seconds * 1000000);
 }
 
+/* Reads the words for the records that are wanted, and answers how many they are. */
+static int read_form(int count, char **words)
+{
+    if (count == 1 && strcmp(words[0], "roll") == 0)
+        form = TESLA_ROLL;
+    if (count == 1 && strcmp(words[0], "early") == 0)
+        form = TESLA_EARLY;
+    if (count == 0 || strcmp(words[0], "follow") != 0)
+        return form == TESLA_PLAIN ? 0 : 1;
+    form = TESLA_FOLLOW;
+    if (count == 1 || strcmp(words[1], "once") != 0)
+        return 1;
+    tesla_once_open(&once, known, TESLA_MOST_NAMES);
+    return 2;
+}
+
 int main(int count, char **words)
 {
     uint64_t wait;
     size_t files, most = 4096;
-    if (count == 2)
-        return show_file(TESLA_PLAIN, words[1]);
-    if (count == 3 && strcmp(words[2], "roll") == 0)
-        return show_file(TESLA_ROLL, words[1]);
-    if (count == 3 && strcmp(words[2], "early") == 0)
-        return show_file(TESLA_EARLY, words[1]);
-    if (count == 5)
-        most = strspn(words[4], "0123456789") == strlen(words[4]) ? (size_t)strtoul(words[4], NULL, 10) : 0;
-    if ((count != 4 && count != 5) || strcmp(words[2], "order") != 0 || (wait = seconds_of(words[3])) == UINT64_MAX
-        || most < 2 || most > MOST_PLACES || (files = split(words[1])) == 0) {
-        fprintf(stderr, "usage: show FILE [roll|early]\n       show FILE,.. order SECONDS [PLACES]\n");
+    int at = count < 2 ? 0 : 2 + read_form(count - 2, words + 2);
+    if (at > 0 && count == at)
+        return show_file(words[1]);
+    if (count - at == 3)
+        most = strspn(words[at + 2], "0123456789") == strlen(words[at + 2]) ? (size_t)strtoul(words[at + 2], NULL, 10) : 0;
+    if (at == 0 || (count - at != 2 && count - at != 3) || strcmp(words[at], "order") != 0
+        || (wait = seconds_of(words[at + 1])) == UINT64_MAX || most < 2 || most > MOST_PLACES || (files = split(words[1])) == 0) {
+        fprintf(stderr, "usage: show FILE [roll|early|follow [once]]\n"
+                        "       show FILE,.. [follow [once]] order SECONDS [PLACES]\n");
         return 3;
     }
     return show_ordered(files, wait, most);

@@ -4,7 +4,7 @@
 
    A record is given at once where it has the number behind the one that was given last, in the same interval. Any other
    waits, since an earlier one may still come: until that came, until it has waited for so long, or until the room is full.
-   Then the numbers that lack before it are given up.
+   Then the numbers that lack before it are given up. Of a follower's records those of an epoch come before those of the next.
 
        static struct tesla_held room[4096];
        struct tesla_order order;
@@ -41,13 +41,13 @@ struct tesla_order {
     struct tesla_held *room;
     size_t most, count, oldest, newest, unused;
     uint64_t wait, turn;
-    uint32_t interval; /* of the record that was given last; 0 where none was */
+    uint32_t epoch, interval; /* of the record that was given last; the interval is 0 where none was */
     uint16_t number;
 };
 
 /* Numbers of an interval, from the first to the last, for which no record is waited any more. */
 struct tesla_gap {
-    uint32_t interval;
+    uint32_t epoch, interval;
     uint16_t first, last;
 };
 
@@ -78,15 +78,22 @@ static inline void tesla_order_open(struct tesla_order *order, struct tesla_held
         room[at].behind = at + 1;
 }
 
+/* Where a name stands to another: below 0 before it, 0 where they are the same, above 0 behind it. */
+static inline int tesla_order_names(uint32_t epoch, uint32_t interval, uint16_t number, const struct tesla_release *other)
+{
+    if (epoch != other->epoch)
+        return epoch < other->epoch ? -1 : 1;
+    if (interval != other->interval)
+        return interval < other->interval ? -1 : 1;
+    return (int)number - (int)other->number;
+}
+
 /* Whether the record of one place comes before that of another. */
 static inline int tesla_order_before(const struct tesla_order *order, size_t one, size_t other)
 {
     const struct tesla_held *a = &order->room[one], *b = &order->room[other];
-    if (a->record.interval != b->record.interval)
-        return a->record.interval < b->record.interval;
-    if (a->record.number != b->record.number)
-        return a->record.number < b->record.number;
-    return a->turn < b->turn;
+    int names = tesla_order_names(a->record.epoch, a->record.interval, a->record.number, &b->record);
+    return names != 0 ? names < 0 : a->turn < b->turn;
 }
 
 /* Puts a place where it belongs in the heap, from `at` upwards or downwards. */
@@ -118,7 +125,7 @@ static inline enum tesla_step tesla_order_put(struct tesla_order *order, const s
 {
     size_t place = order->unused;
     struct tesla_held *held;
-    if (record->interval < order->interval || (record->interval == order->interval && record->number <= order->number)) {
+    if (tesla_order_names(order->epoch, order->interval, order->number, record) >= 0) {
         order->late++;
         return TESLA_LATE;
     }
@@ -180,18 +187,22 @@ static inline enum tesla_step tesla_order_next(struct tesla_order *order, enum t
 {
     const struct tesla_release *first;
     uint32_t number;
+    int same;
     if (order->count == 0)
         return TESLA_NONE;
     first = &order->room[order->room[0].place].record;
-    number = first->interval == order->interval ? order->number + UINT32_C(1) : 0;
-    if (!(first->interval == order->interval && first->number == number) && order->count < order->most
+    same = first->epoch == order->epoch && first->interval == order->interval;
+    number = same ? order->number + UINT32_C(1) : 0;
+    if (!(same && first->number == number) && order->count < order->most
         && which != TESLA_ALL && !(which == TESLA_DUE && tesla_order_due(order) <= now))
         return TESLA_NONE;
     if (number < first->number) {
+        gap->epoch = first->epoch;
         gap->interval = first->interval;
         gap->first = (uint16_t)number;
         gap->last = (uint16_t)(first->number - 1);
         order->lost += first->number - number;
+        order->epoch = first->epoch;
         order->interval = first->interval;
         order->number = gap->last;
         return TESLA_GAP;
@@ -201,6 +212,7 @@ static inline enum tesla_step tesla_order_next(struct tesla_order *order, enum t
         order->late++;
         return TESLA_LATE;
     }
+    order->epoch = record->epoch;
     order->interval = record->interval;
     order->number = record->number;
     order->given++;

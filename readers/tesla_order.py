@@ -8,13 +8,14 @@ tesla_release.py beside it.
 
 A record is given at once where it has the number behind the one that was given last, in the same interval. Any other waits,
 since an earlier one may still come: until that came, until it has waited for so many seconds, or until there is no room. Then
-the numbers that lack before it are given up. Nothing here reads a clock or a file.
+the numbers that lack before it are given up. Of a follower's records those of an epoch come before those of the next. Nothing
+here reads a clock or a file.
 """
 import heapq
 from collections import OrderedDict, namedtuple
 
 # Numbers of an interval, from the first to the last, for which no record is waited any more.
-Gap = namedtuple("Gap", "interval first last")
+Gap = namedtuple("Gap", "interval first last epoch")
 # A record that came behind its place, or a second time, and isn't given.
 Late = namedtuple("Late", "record")
 
@@ -27,13 +28,13 @@ class Order:
         self.wait, self.most = wait, most
         self.given = self.lost = self.late = 0
         # No interval is 0, so nothing has the number behind this one.
-        self._last = (0, 0)
+        self._last = (0, 0, 0)
         self._held, self._came, self._turn = [], OrderedDict(), 0
 
     def put(self, record, now):
         """Takes a record that came at this time, in seconds of any clock that can't be set. Answers what follows: records,
         gaps before them, and what is late."""
-        name = (record.interval, record.number)
+        name = (record.epoch, record.interval, record.number)
         if name <= self._last:
             self.late += 1
             return [Late(record)]
@@ -55,8 +56,8 @@ class Order:
         return self._while(lambda: True)
 
     def _follows(self):
-        (interval, number), _, _ = self._held[0]
-        return (interval, number - 1) == self._last
+        (epoch, interval, number), _, _ = self._held[0]
+        return (epoch, interval, number - 1) == self._last
 
     def _while(self, may):
         events = []
@@ -65,13 +66,13 @@ class Order:
         return events
 
     def _give(self):
-        (interval, number), turn, record = heapq.heappop(self._held)
+        (epoch, interval, number), turn, record = heapq.heappop(self._held)
         del self._came[turn]
-        if (interval, number) == self._last:
+        if (epoch, interval, number) == self._last:
             self.late += 1
             return [Late(record)]
-        first = self._last[1] + 1 if interval == self._last[0] else 0
-        self._last = (interval, number)
+        first = self._last[2] + 1 if (epoch, interval) == self._last[:2] else 0
+        self._last = (epoch, interval, number)
         self.given += 1
         self.lost += number - first
-        return [Gap(interval, first, number - 1), record] if first < number else [record]
+        return [Gap(interval, first, number - 1, epoch), record] if first < number else [record]

@@ -27,11 +27,12 @@
 #include <stdint.h>
 #include <stdio.h>
 
-/* The command that wrote the records: what stands before each. */
+/* What wrote the records: what stands before each. */
 enum tesla_form {
     TESLA_PLAIN, /* `receive` and `replay`: nothing */
     TESLA_ROLL,  /* `roll`: the number of the epoch */
-    TESLA_EARLY  /* `early`: whether a packet was given, or a message was accepted on arrival */
+    TESLA_EARLY, /* `early`: whether a packet was given, or a message was accepted on arrival */
+    TESLA_FOLLOW /* a follower: the same, and the number of the epoch */
 };
 
 enum tesla_result {
@@ -46,18 +47,20 @@ enum tesla_result {
 #define TESLA_MOST_PAYLOAD 1200
 #define TESLA_MOST_INTERVAL 1048576
 #define TESLA_MOST_CHAIN 7
-#define TESLA_MOST_EPOCH 15
+#define TESLA_MOST_EPOCH 15 /* of `roll`; a follower's may be any number */
+/* The chain of a message that a follower accepted on arrival: none has proved it. */
+#define TESLA_NO_CHAIN 255
 /* The most bytes of a record of any form. */
-#define TESLA_MOST (1 + 17 + TESLA_MOST_PAYLOAD)
+#define TESLA_MOST (5 + 17 + TESLA_MOST_PAYLOAD)
 
 struct tesla_release {
-    uint64_t position; /* how many packets were given before */
+    uint64_t position; /* how many packets were given before; of a follower: how many records there were before */
+    uint32_t epoch;    /* of `roll` and of a follower: the epoch that gave it; else 0 */
     uint32_t interval;
     uint16_t number;  /* its number within the interval */
     uint16_t length;  /* the bytes of the payload */
     uint8_t chain;    /* the least chain that proved it */
-    uint8_t epoch;    /* of `roll`: the epoch that gave it; else 0 */
-    uint8_t accepted; /* of `early`: 1 where it was accepted on arrival, and then position and chain are 0; else 0 */
+    uint8_t accepted; /* 1 where it was accepted on arrival, and then of `early` position and chain are 0; else 0 */
     const unsigned char *payload;
 };
 
@@ -76,27 +79,44 @@ static inline size_t tesla_head(enum tesla_form form, unsigned char mark)
 {
     if (form == TESLA_PLAIN)
         return 17;
+    if (form == TESLA_FOLLOW)
+        return 22;
     return form == TESLA_EARLY && mark == 1 ? 9 : 18;
+}
+
+/* Whether the first byte of a record is its kind: 0 where a packet was given, 1 where a message was accepted on arrival. */
+static inline int tesla_has_kind(enum tesla_form form)
+{
+    return form == TESLA_EARLY || form == TESLA_FOLLOW;
+}
+
+/* Whether the fields of a head, whose first byte is `mark`, are within their limits. */
+static inline int tesla_fits(enum tesla_form form, unsigned char mark, const struct tesla_release *record)
+{
+    if (tesla_has_kind(form) && mark > 1)
+        return 0;
+    if (form == TESLA_ROLL && record->epoch > TESLA_MOST_EPOCH)
+        return 0;
+    if (form == TESLA_FOLLOW && record->accepted ? record->chain != TESLA_NO_CHAIN : record->chain > TESLA_MOST_CHAIN)
+        return 0;
+    return record->length <= TESLA_MOST_PAYLOAD && record->interval >= 1 && record->interval <= TESLA_MOST_INTERVAL;
 }
 
 /* Reads the head of a record. Says whether it is one. */
 static inline int tesla_is_head(enum tesla_form form, const unsigned char *bytes, struct tesla_release *record)
 {
-    const unsigned char *name;
     size_t head = tesla_head(form, bytes[0]);
-    record->accepted = form == TESLA_EARLY && bytes[0] == 1;
-    record->epoch = (uint8_t)(form == TESLA_ROLL ? bytes[0] : 0);
-    name = bytes + head - (record->accepted ? 8 : 9);
-    record->position = record->accepted ? 0 : tesla_number(name - 8, 8);
+    int is_short = head == 9;
+    const unsigned char *name = bytes + head - (is_short ? 8 : 9);
+    record->accepted = tesla_has_kind(form) && bytes[0] == 1;
+    record->epoch = form == TESLA_ROLL ? bytes[0] : (uint32_t)(form == TESLA_FOLLOW ? tesla_number(bytes + 1, 4) : 0);
+    record->position = is_short ? 0 : tesla_number(name - 8, 8);
     record->interval = (uint32_t)tesla_number(name, 4);
     record->number = (uint16_t)tesla_number(name + 4, 2);
-    record->chain = (uint8_t)(record->accepted ? 0 : name[6]);
+    record->chain = (uint8_t)(is_short ? 0 : name[6]);
     record->length = (uint16_t)tesla_number(bytes + head - 2, 2);
     record->payload = bytes + head;
-    if (form == TESLA_EARLY && bytes[0] > 1)
-        return 0;
-    return record->epoch <= TESLA_MOST_EPOCH && record->chain <= TESLA_MOST_CHAIN && record->length <= TESLA_MOST_PAYLOAD
-        && record->interval >= 1 && record->interval <= TESLA_MOST_INTERVAL;
+    return tesla_fits(form, bytes[0], record);
 }
 
 /* Reads the record with which `size` bytes begin. At TESLA_RECORD `used` says how many of them are the record's. At

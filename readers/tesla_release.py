@@ -4,16 +4,20 @@
         for record in tesla_release.records(file):
             ...
 
-A form says which command wrote the records: PLAIN `receive` and `replay`, ROLL `roll`, EARLY `early`.
+A form says what wrote the records: PLAIN `receive` and `replay`, ROLL `roll`, EARLY `early`, FOLLOW a follower.
 """
 import struct
 from collections import namedtuple
 
-PLAIN, ROLL, EARLY = "plain", "roll", "early"
+PLAIN, ROLL, EARLY, FOLLOW = "plain", "roll", "early", "follow"
+# (the epoch is that of `roll`; a follower's may be any number)
 MOST_PAYLOAD, MOST_INTERVAL, MOST_CHAIN, MOST_EPOCH = 1200, 1_048_576, 7, 15
+# The chain of a message that a follower accepted on arrival: none has proved it.
+NO_CHAIN = 255
 
-# The position says how many packets were given before, and the chain is the least that proved it. The epoch is that of
-# `roll`, and else 0. Of `early` a message that was accepted on arrival is `accepted`, and has no position and no chain.
+# The position says how many packets were given before, and the chain is the least that proved it. Of a follower it says how
+# many records there were before. The epoch is that of `roll` or of a follower, and else 0. A message that was accepted on
+# arrival is `accepted`; of `early` it has no position and no chain.
 Record = namedtuple("Record", "position interval number chain payload epoch accepted", defaults=(0, False))
 
 
@@ -27,21 +31,31 @@ class NoRecord(Exception):
 
 def head_size(form, mark):
     """How many bytes stand before the payload, where the first byte of the record is this one."""
-    return {PLAIN: 17, ROLL: 18, EARLY: 9 if mark == 1 else 18}[form]
+    return {PLAIN: 17, ROLL: 18, EARLY: 9 if mark == 1 else 18, FOLLOW: 22}[form]
 
 
 def head_of(form, head):
     """A record without its payload, and how many bytes that has."""
+    kind = head[0] if form in (EARLY, FOLLOW) else 0
     if len(head) == 9:
         _, interval, number, length = struct.unpack(">BIHH", head)
         record = Record(None, interval, number, None, b"", 0, True)
     else:
         position, interval, number, chain, length = struct.unpack(">QIHBH", head[-17:])
-        record = Record(position, interval, number, chain, b"", head[0] if form == ROLL else 0)
-    fits = 1 <= record.interval <= MOST_INTERVAL and (record.chain or 0) <= MOST_CHAIN and length <= MOST_PAYLOAD
-    if not fits or record.epoch > MOST_EPOCH or form == EARLY and head[0] > 1:
+        epoch = int.from_bytes({ROLL: head[:1], FOLLOW: head[1:5]}.get(form, b""), "big")
+        record = Record(position, interval, number, chain, b"", epoch, kind == 1)
+    if kind > 1 or not fits(form, record) or length > MOST_PAYLOAD:
         raise NoRecord(f"these bytes begin no record: {head.hex()}")
     return record, length
+
+
+def fits(form, record):
+    """Whether the numbers of a record are within their limits."""
+    if form == FOLLOW and record.accepted:
+        proved = record.chain == NO_CHAIN
+    else:
+        proved = (record.chain or 0) <= MOST_CHAIN
+    return proved and 1 <= record.interval <= MOST_INTERVAL and (form != ROLL or record.epoch <= MOST_EPOCH)
 
 
 def read(file, form=PLAIN):
