@@ -5,6 +5,7 @@ docs/FORMATS.md.
 `pcap` writes datagrams as a file of packets, each over Ethernet, IPv4 and UDP.
 """
 import os
+import re
 import struct
 import sys
 
@@ -12,14 +13,31 @@ HERE = os.path.dirname(os.path.abspath(__file__))
 # (what imports this first finds the modules at the top of the repository)
 sys.path.insert(0, os.path.dirname(os.path.dirname(HERE)))
 
+from model.epochs import handover_text  # noqa: E402
 from model.frames import DataFrame, frame_of  # noqa: E402
 
 SENDER, RECEIVER = (bytes([192, 0, 2, 7]), 40000), (bytes([192, 0, 2, 9]), 5001)
 # 2026-01-01, in microseconds.
 TIME = 1_767_225_600_000_000
-NUMBERS = ("version", "kind", "stream", "interval", "number", "length", "count", "tag_length", "flag", "chain", "index", "t_r",
-           "t_s")
+NUMBERS = ("version", "kind", "stream", "interval", "number", "length", "next_stream", "count", "tag_length", "flag", "chain",
+           "index", "t_r", "t_s")
 BYTES = ("payload", "tag", "key")
+TEXTS = ("line",)
+
+
+def printable(text):
+    """A text in which every byte that is no printable character of ASCII stands as \\x and two digits, and \\ as \\\\."""
+    return "".join("\\\\" if byte == 0x5c else chr(byte) if 0x20 <= byte <= 0x7e else f"\\x{byte:02x}" for byte in text)
+
+
+def fields_of_handover(payload):
+    """The values of the fields of a payload beside its bytes: of one that begins as a handover."""
+    text = handover_text(payload)
+    if text is None:
+        return {}
+    named = re.match(rb"tesla [12]\nstream ([0-9a-f]{16})\n", text)
+    lines = text.removesuffix(b"\n").split(b"\n") if text else []
+    return {"next_stream": [int(named[1], 16)] if named else [], "line": [printable(line) for line in lines]}
 
 
 def fields_of_frame(frame):
@@ -30,6 +48,7 @@ def fields_of_frame(frame):
         keyed = [(chain, row.key) for chain, row in enumerate(rows) if row.key is not None]
         told |= {"interval": [frame.interval], "number": [frame.number], "length": [len(frame.payload)]}
         told |= {"payload": [frame.payload][:len(frame.payload)], "tag_length": [frame.tag_length][:frame.version - 1]}
+        told |= fields_of_handover(frame.payload)
         told |= {"tag": [row.tag for row in rows], "flag": [int(row.key is not None) for row in rows]}
         told |= {"chain": [chain for chain, _ in keyed], "key": [key for _, key in keyed]}
     else:
@@ -73,6 +92,8 @@ def stored():
                 packets.append(Packet(rest))
             elif kind == "bytes":
                 packets[-1].datagram += bytes.fromhex(rest)
+            elif kind == "text":
+                packets[-1].datagram += f"{rest}\n".encode("ascii")
             elif kind == "repeat":
                 times, byte = rest.split()
                 packets[-1].datagram += bytes.fromhex(byte) * int(times)

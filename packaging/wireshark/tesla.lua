@@ -1,5 +1,6 @@
 -- Shows what a TESLA stream sends in Wireshark and tshark: data frames and disclosure frames of both versions, asks and
--- replies. The fields have the names that docs/FORMATS.md gives them, and what is malformed there is marked as malformed.
+-- replies. The fields have the names that docs/FORMATS.md gives them, and what is malformed there is marked as malformed. Of a
+-- handover to a further stream the setup is shown.
 -- docs/operating/LOOKING.md says how it is installed and used.
 --
 -- A datagram over UDP is taken where it begins with one of the three magics, at whatever port. Where another protocol
@@ -13,6 +14,9 @@ local MOST_PAYLOAD, KEY = 1200, 32
 -- Of each version: the most rows, and the bytes of a tag where the frame doesn't tell them.
 local VERSIONS = { [1] = { rows = 4, tag = 16 }, [2] = { rows = 8 } }
 local SHORTEST_TAG, LONGEST_TAG = 10, 32
+-- What the payload of a handover begins with, and how the text of a setup begins that stands behind it.
+local HANDOVER = "TNXT\1"
+local SETUP = "^tesla [12]\nstream ()(" .. ("[0-9a-f]"):rep(16) .. ")\n"
 
 local fields = {
   magic = ProtoField.string("tesla.magic", "magic"),
@@ -23,6 +27,9 @@ local fields = {
   number = ProtoField.uint16("tesla.number", "number"),
   length = ProtoField.uint16("tesla.length", "length", base.DEC, nil, nil, "The bytes of the payload"),
   payload = ProtoField.bytes("tesla.payload", "payload"),
+  handover = ProtoField.none("tesla.handover", "handover"),
+  next_stream = ProtoField.uint64("tesla.next_stream", "next stream", base.HEX, nil, nil, "The stream that a handover names"),
+  line = ProtoField.string("tesla.line", "line", base.ASCII, "A line of the text of a handover"),
   count = ProtoField.uint8("tesla.count", "count", base.DEC, nil, nil, "How many rows the frame has"),
   tag_length = ProtoField.uint8("tesla.tag_length", "tag length"),
   row = ProtoField.none("tesla.row", "row"),
@@ -141,14 +148,54 @@ local function read_tag_length(datagram, tree)
   return tag
 end
 
+-- A text in which every byte that is no printable character of ASCII stands as \x and two digits, and \ as \\.
+local function printable(text)
+  return (text:gsub("\\", "\\\\"):gsub("[^ -~]", function(byte)
+    return string.format("\\x%02x", byte:byte())
+  end))
+end
+
+-- Shows the lines of the text of a handover, the last one also where it isn't ended.
+local function show_lines(tree, range)
+  local text, from = range:raw(), 1
+  while from <= #text do
+    local to = text:find("\n", from, true) or #text
+    tree:add(fields.line, range(from - 1, to - from + 1), printable((text:sub(from, to):gsub("\n$", ""))))
+    from = to + 1
+  end
+end
+
+-- Shows a payload that begins as a handover. Says to which stream, as far as its text begins as a setup. Whether it hands the
+-- stream over is decided by the tag and by the whole of the setup, of which nothing more is judged here.
+local function show_handover(tree, range)
+  local handover = tree:add(fields.handover, range)
+  local at, digits = range:raw():sub(#HANDOVER + 1):match(SETUP)
+  if digits then
+    handover:add(fields.next_stream, range(#HANDOVER + at - 1, #digits), UInt64.fromhex(digits))
+  end
+  if range:len() > #HANDOVER then
+    show_lines(handover, range(#HANDOVER, range:len() - #HANDOVER))
+  end
+  local said = "to " .. (digits or "no stream")
+  handover:append_text(" " .. said)
+  return ", handover " .. said
+end
+
+-- The payload of a data frame. Says what the column adds for it.
+local function read_payload(datagram, tree, length)
+  local range = datagram:show(tree, "payload", length)
+  return range:raw():sub(1, #HANDOVER) == HANDOVER and show_handover(tree, range) or ""
+end
+
 local function read_data(datagram, tree, version)
   local interval = datagram:number(tree, "interval", 4)
   local number = datagram:number(tree, "number", 2)
   local length = datagram:number(tree, "length", 2)
+  local more = ""
   if length > MOST_PAYLOAD then
     malformed("length %d is above %d", length, MOST_PAYLOAD)
   elseif length > 0 then
-    datagram:show(tree, "payload", length)
+    more = read_payload(datagram, tree, length)
   end
   local count = read_count(datagram, tree, version)
   local tag = version.tag or read_tag_length(datagram, tree)
@@ -157,7 +204,7 @@ local function read_data(datagram, tree, version)
     keys = keys + read_tag_row(datagram, tree, chain, tag, interval)
   end
   datagram:ended()
-  return string.format("data %d/%d %d bytes, keys %d", interval, number, length, keys)
+  return string.format("data %d/%d %d bytes, keys %d", interval, number, length, keys) .. more
 end
 
 local function read_disclosure(datagram, tree, version)
