@@ -8,6 +8,7 @@ ghost use Rattle.tesla_desk.specs.Outside.{Untold};
 use crate::clock::anchor_of;
 use crate::feeding::name_of_feed;
 use crate::gate::{Gates, LiveGate};
+use crate::stack::overwrite_stack;
 use crate::{Anchor, Command, MachineClock};
 use std::net::Net;
 use std::rt::Files;
@@ -127,6 +128,13 @@ impl<'a, R: Files + Net + Eprint> LiveDesk<'a, R> {
         }
     }
 
+    // Overwrites what is left on the stack of a secret that was read before.
+    fn forget_secret(&self) {
+        if self.command.secret().is_some() {
+            overwrite_stack(self.rt);
+        }
+    }
+
     // Refuses to begin where something stands already at the path that ends the links of the run.
     fn look_for_stop(&self) -> Result<(), Cause> {
         match self.gates.events.ending.stands(self.rt) {
@@ -222,6 +230,7 @@ where
         let _began = begin(&mut self.anchor, self.rt, self.command);
         let link_name = Text::new(self.rt.alloc(), name.as_bytes())?;
         let number = take_number(&mut self.numbers.links);
+        self.forget_secret();
         match self.listening(name) {
             Ok((held, listening)) => {
                 self.held = held;
@@ -298,6 +307,7 @@ where
             return self.open_console();
         }
         let sink_name = Text::new(self.rt.alloc(), name.as_bytes())?;
+        self.forget_secret();
         let making = self.command.making();
         match self.opened.create(self.rt, name, making) {
             Ok(Opened { file, mode }) => {

@@ -10,6 +10,7 @@ mod gate;
 mod label;
 mod notices;
 mod rule;
+mod stack;
 mod times;
 
 pub use clock::MachineClock;
