@@ -2,7 +2,7 @@
 use Rattle.std.proofs.Common.{◌≡◌, ℕ, List, [], ◌∷◌, ◌++◌, take, sym, subst}
 use Rattle.tesla_receiver.specs.History.{Event, Arrives, Takes, Ends, entry_of, event_of}
 use Rattle.tesla_receiver.specs.Stands.{Stands}
-use Rattle.tesla_receiver.specs.declared.history.Entry.{Entry}
+use Rattle.tesla_receiver.specs.Entries.{Entry}
 use Rattle.tesla_state.specs.Replies.{KeepsBehind}
 use Rattle.tesla_state.specs.State.{State}
 use Rattle.tesla_state.specs.declared.replies.Take.{Take}

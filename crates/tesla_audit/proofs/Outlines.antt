@@ -1,7 +1,7 @@
 -- The outline of bytes has no refused place exactly where they spell a trace.
 use Rattle.std.proofs.Common.{◌≡◌, ℕ, List, Option, Some, None, refl, ap}
 use Rattle.tesla_base.specs.Prefix.{AreBytes}
-use Rattle.tesla_receiver.specs.declared.history.Entry.{Entry}
+use Rattle.tesla_receiver.specs.Entries.{Entry}
 use Rattle.tesla_records.specs.Records.{outline_of}
 use Rattle.tesla_records.specs.declared.refusal.Refusal.{Refusal}
 use Rattle.tesla_records.proofs.OutlineIsFile.{file_again, file_takes}

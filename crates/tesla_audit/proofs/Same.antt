@@ -5,8 +5,7 @@ use Rattle.std.proofs.lemmas.Bool.{eqb-true, eq-eqb, and_parts, and_from}
 use Rattle.std.proofs.lemmas.Slice.Eq.{bytes_eq-Decides}
 use Rattle.tesla_fitting.specs.declared.verdict.Verdict.{Verdict}
 use Rattle.tesla_fitting.specs.declared.verdict.Verdict.TheVariants as verdicts
-use Rattle.tesla_receiver.specs.declared.history.Arrival.{Arrival}
-use Rattle.tesla_receiver.specs.declared.history.Entry.{Entry}
+use Rattle.tesla_receiver.specs.Entries.{Arrival, Entry}
 use Rattle.tesla_receiver.specs.declared.history.Entry.TheVariants.{Arrived, Taken, Ended}
 use Rattle.tesla_state.specs.declared.replies.Reply.{Reply}
 use Rattle.tesla_state.specs.declared.replies.Reply.TheVariants.{Given, Empty, Over}
@@ -87,7 +86,7 @@ reply_same a b e = sym (reply_again a) ∙ ap reply_of (numbers_same (reply_numb
 abbrev arrival_with : ℕ → ℕ → List ℕ → Verdict → Entry
 arrival_with ingest reading bytes verdict = Arrived (record { ingest = ingest; reading = reading; bytes = bytes; verdict = verdict })
 
-arrival_same : (a b : Arrival) → (eqb a.ingest b.ingest && eqb a.reading b.reading && bytes_eq a.bytes b.bytes && bytes_eq (verdict_numbers a.verdict) (verdict_numbers b.verdict)) ≡ true → Arrived a ≡ Arrived b
+arrival_same : (a b : Arrival) → (eqb a.ingest b.ingest && eqb a.reading b.reading && bytes_eq a.bytes b.bytes && bytes_eq (verdict_numbers a.verdict) (verdict_numbers b.verdict)) ≡ true → ◌≡◌ {A = Entry} (Arrived a) (Arrived b)
 arrival_same a b e =
     let last = and_parts (eqb a.ingest b.ingest && eqb a.reading b.reading && bytes_eq a.bytes b.bytes) (bytes_eq (verdict_numbers a.verdict) (verdict_numbers b.verdict)) e in
     let third = and_parts (eqb a.ingest b.ingest && eqb a.reading b.reading) (bytes_eq a.bytes b.bytes) last.0 in

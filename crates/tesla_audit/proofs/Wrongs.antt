@@ -3,7 +3,7 @@ use Rattle.std.proofs.Common.{◌≡◌, ◌≢◌, ◌∙◌, ℕ, Bool, true, 
 use Rattle.std.proofs.lemmas.List.{append-nil}
 use Rattle.tesla_fitting.specs.declared.config.Config.{Config}
 use Rattle.tesla_receiver.specs.History.{IsLegal, IsLegalAfter, entry_of, event_of}
-use Rattle.tesla_receiver.specs.declared.history.Entry.{Entry}
+use Rattle.tesla_receiver.specs.Entries.{Entry}
 use Rattle.tesla_receiver.proofs.Standing.{legal_more}
 use Rattle.tesla_audit.specs.Wrong.{IsFirstWrong, first_wrong, first_wrong_after, same_entry, wrong_by}
 use Rattle.tesla_audit.proofs.Same.{is_same, same_is}

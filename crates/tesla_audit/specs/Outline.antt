@@ -1,6 +1,6 @@
 -- What the bytes of a trace come to.
 use Rattle.std.specs.Prelude.{ℕ, List, Option, Some, None}
-use Rattle.tesla_receiver.specs.declared.history.Entry.{Entry}
+use Rattle.tesla_receiver.specs.Entries.{Entry}
 use Rattle.tesla_records.specs.Records.{Outline, outline_of}
 use Rattle.tesla_records.specs.declared.refusal.Refusal.{Refusal}
 use Rattle.tesla_trace.specs.Grammar.{trace}

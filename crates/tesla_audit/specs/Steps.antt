@@ -5,7 +5,7 @@ use Rattle.tesla_records.specs.declared.refusal.Refusal.TheVariants as refusals
 use Rattle.tesla_records.specs.Steps.{goes_on}
 use Rattle.tesla_records.specs.declared.step.RecordsStep.{RecordsStep}
 use Rattle.tesla_records.specs.declared.step.RecordsStep.TheVariants as steps
-use Rattle.tesla_receiver.specs.declared.history.Entry.{Entry}
+use Rattle.tesla_receiver.specs.Entries.{Entry}
 use Rattle.tesla_trace.specs.Entries.{entry_in}
 use Rattle.tesla_trace.specs.declared.entry.EntryBuffer.{EntryBuffer}
 use Rattle.tesla_trace.specs.declared.kind.EntryFault.{EntryFault}

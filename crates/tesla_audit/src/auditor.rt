@@ -1,7 +1,7 @@
 //! A receiver that judges the entries of a trace.
 
 ghost use Rattle.std.specs.Prelude.{◌≡◌, ◌≢◌, ◌+◌, ◌^◌, ◌<◌, ◌≤◌, ◌++◌, ◌∷◌, [], List, ℕ, true, false, take, length};
-ghost use Rattle.tesla_receiver.specs.declared.history.Entry.{Entry};
+ghost use Rattle.tesla_receiver.specs.Entries.{Entry};
 ghost use Rattle.tesla_receiver.specs.declared.history.Entry.TheVariants.{Arrived, Taken};
 ghost use Rattle.tesla_receiver.specs.History.{Arrives, Takes, entry_of, event_of};
 ghost use Rattle.tesla_receiver.specs.Stands.{Stands};

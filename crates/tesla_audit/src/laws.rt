@@ -3,7 +3,7 @@
 ghost use Rattle.std.specs.Prelude.{◌≡◌, ◌↔◌, List, ℕ, Some, None, true};
 ghost use Rattle.tesla_base.specs.Prefix.{AreBytes};
 ghost use Rattle.tesla_fitting.specs.declared.config.Config.{Config};
-ghost use Rattle.tesla_receiver.specs.declared.history.Entry.{Entry};
+ghost use Rattle.tesla_receiver.specs.Entries.{Entry};
 ghost use Rattle.tesla_receiver.specs.History.{IsLegal};
 ghost use Rattle.tesla_trace.specs.Grammar.{IsTrace};
 ghost use Rattle.tesla_audit.specs.Outline.{trace_outline};

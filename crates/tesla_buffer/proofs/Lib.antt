@@ -3,3 +3,4 @@ pub mod Stored
 pub mod Written
 pub mod Resting
 pub mod Shown
+pub mod Cleared

@@ -79,6 +79,10 @@ is_resting item = not item.released || item.taken
 abbrev pub wide_tag_in : TagRow → WideTag
 wide_tag_in row = wide_tag row.tag
 
+-- whether a packet was not taken
+abbrev pub is_untaken : Held → Bool
+is_untaken h = not h.item.taken
+
 -- an item is that of the packet of a frame: the bytes of the payload and the tags stand first
 pub record IsMadeOf (arrival : ℕ) (safe : ℕ) (frame : DataFrame) (item : Item) : Type 0 where
   pub order : item.order ≡ arrival

@@ -1,9 +1,9 @@
 //! The buffer of a receiver.
 
-ghost use Rattle.std.specs.Prelude.{◌≡◌, ◌<◌, ◌≤◌, [], ◌∷◌, ◌++◌, ◌&&◌, false, true, not, length, map, option_map, IfOk, IfSome, MatchOption, Some};
+ghost use Rattle.std.specs.Prelude.{◌≡◌, ◌<◌, ◌≤◌, [], ◌∷◌, ◌++◌, ◌&&◌, false, true, not, length, map, option_map, IfOk, IfSome, MatchOption, Some, cond, count_by};
 ghost use Rattle.std.specs.List.{filter, find, list_any};
 ghost use Rattle.tesla_base.specs.Members.{Distinct, is_in};
-ghost use Rattle.tesla_buffer.specs.Held.{Held, IsMadeOf, changed, first_slot, is_at, is_live, is_of, is_released_as, is_resting, is_unreleased_at, is_unreleased_of, next_slot, next_unreleased, settled};
+ghost use Rattle.tesla_buffer.specs.Held.{Held, IsMadeOf, changed, first_slot, is_at, is_live, is_of, is_released_as, is_resting, is_unreleased_at, is_unreleased_of, is_untaken, next_slot, next_unreleased, settled};
 
 use crate::parts::{key_of_name, rests, vacant_slot, write_parts};
 use crate::{Fate, Item};
@@ -13,11 +13,19 @@ use tesla_base::{Name, NoMemory, Place};
 use tesla_frame::DataView;
 use tesla_links::{Index, KeyTable};
 
+/// 1 for a packet that wasn't taken, and else 0.
+fn untaken(item: &Item) -> u32
+    ensures value { result ≡ cond (not item.now.taken) 1 0 }
+    ensures few { result ≤ 1 }
+{
+    if item.taken { 0 } else { 1 }
+}
+
 /// Packets that are held, each at a place that it keeps until it is gone, in the order in which they came.
 ///
 /// The packets of an interval are found by it, also those alone that were not released, and a released packet by its
-/// name. No call goes over packets, whatever is held. A place that was never used is never touched, and the place that
-/// became vacant last is the first to be used again.
+/// name. No call but `clear` goes over packets, whatever is held. A place that was never used is never touched, and the
+/// place that became vacant last is the first to be used again.
 #[derive(Drop)]
 pub struct Buffer {
     capacity: u32,
@@ -250,6 +258,36 @@ impl Buffer {
         self.index.remove(place);
         self.released.clear(place);
         self.free.push_reserved(place);
+    }
+
+    /// The place of the packet that came first of all; `None` exactly where none is held.
+    fn oldest(&self) -> Option<Place>
+        ensures place { result ≡ first_slot self.now.held }
+        ensures distinct { Distinct (map (λ h. h.place) self.now.held) }
+    {
+        let Some(place) = self.index.oldest() else {
+            return None;
+        };
+        Some(Place(place))
+    }
+
+    /// Holds no packet any more: all places are vacant. It tells how many of those that were held weren't taken. It takes no
+    /// memory, and goes over the packets that were held.
+    pub fn clear(&mut self) -> u32
+        ensures dropped { result ≡ count_by is_untaken self.old.held }
+        ensures held { self.new.held ≡ [] }
+        ensures capacity { self.new.capacity ≡ self.old.capacity }
+        ensures reserved { self.new.reserved ≡ self.old.reserved }
+    {
+        let mut dropped = 0;
+        for _gone in 0..self.held() {
+            let Some(place) = self.oldest() else {
+                return dropped;
+            };
+            dropped += untaken(self.item(place));
+            self.remove(place.0);
+        }
+        dropped
     }
 
     /// Settles what becomes of the packet at a place: it is marked as released or as taken, or is held no longer.

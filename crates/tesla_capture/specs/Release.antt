@@ -22,3 +22,7 @@ marked_text mark head payload = mark ∷ release_text head payload
 abbrev pub accepted_text : Name → List ℕ → List ℕ
 accepted_text name payload =
     1 ∷ [] ++ to_be_bytes w32 name.interval ++ to_be_bytes w16 name.number ++ to_be_bytes w16 (length payload) ++ payload
+
+-- a record of a follower: the byte of its kind, its epoch, and then a release record
+abbrev pub followed_text : ℕ → ℕ → Head → List ℕ → List ℕ
+followed_text kind epoch head payload = (kind ∷ to_be_bytes w32 epoch ++ head_text head) ++ payload

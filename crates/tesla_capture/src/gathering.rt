@@ -4,12 +4,13 @@ ghost use Rattle.std.specs.Prelude.{◌≡◌, ◌≤◌, ◌<◌, ◌+◌, [], 
 ghost use Rattle.tesla_desk.specs.Faults.{HasCause};
 ghost use Rattle.tesla_desk.specs.Outside.{AppendsPrefix, with_bytes};
 ghost use Rattle.tesla_capture.specs.Capture.{head as capture_head, record_text, Arrives, Takes};
-ghost use Rattle.tesla_capture.specs.Release.{accepted_text, marked_text, release_text};
+ghost use Rattle.tesla_capture.specs.Release.{accepted_text, followed_text, marked_text, release_text};
 ghost use Rattle.tesla_capture.specs.Script.{head as script_head, record_text as script_record, Sends, Discloses};
 
 use crate::format::{CaptureFormat, Format, ScriptFormat};
 use crate::writing::{
-    accepted_bytes, arrival_bytes, disclosure_bytes, head_bytes, marked_head_bytes,
+    accepted_bytes, arrival_bytes, disclosure_bytes, followed_head_bytes, head_bytes,
+    marked_head_bytes,
 };
 use tesla_base::{Head, Name};
 use tesla_desk::{Sink, write_all};
@@ -269,6 +270,17 @@ impl Gatherer {
         ensures { gathered self.new ≡ gathered self.old ++ release_text head.now payload.now }
     {
         self.append_both(&head_bytes(head), payload);
+    }
+
+    /// Puts the record of a follower, of this kind and epoch, whose payload has the head's length of at most 1,200 bytes, behind
+    /// the records gathered, where there is room for it. It takes no memory.
+    pub fn add_followed(&mut self, kind: u8, epoch: u32, head: &Head, payload: &[u8])
+        requires same { head.now.length ≡ length payload.now }
+        requires limit { length payload.now ≤ 1200 }
+        requires room { length (gathered self.old) + 22 + length payload.now ≤ 8192 }
+        ensures { gathered self.new ≡ gathered self.old ++ followed_text kind epoch head.now payload.now }
+    {
+        self.append_both(&followed_head_bytes(kind, epoch, head), payload);
     }
 
     /// Whether there is room for so many bytes behind the records gathered.

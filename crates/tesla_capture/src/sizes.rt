@@ -14,3 +14,6 @@ pub const RELEASE_HEAD_SIZE: usize = 17;
 
 /// The fields of the record of a message that was accepted on arrival, before its payload.
 pub const ACCEPTED_SIZE: usize = 9;
+
+/// The fields of a record of a follower before its payload: its kind, its epoch, and those of a release record.
+pub const FOLLOWED_HEAD_SIZE: usize = 22;

@@ -9,7 +9,9 @@ ghost use Rattle.tesla_capture.specs.Release.{head_text, release_text};
 ghost use Rattle.tesla_capture.specs.Script.{head as script_head, record_text as script_record, Sends, Discloses};
 
 use crate::format::{CaptureFormat, Format, ScriptFormat};
-use crate::sizes::{ACCEPTED_SIZE, CARRYING_SIZE, RELEASE_HEAD_SIZE, TIMED_SIZE};
+use crate::sizes::{
+    ACCEPTED_SIZE, CARRYING_SIZE, FOLLOWED_HEAD_SIZE, RELEASE_HEAD_SIZE, TIMED_SIZE,
+};
 use tesla_base::{Head, Name};
 use tesla_desk::{Sink, write_all};
 
@@ -45,6 +47,16 @@ pub(crate) fn marked_head_bytes(mark: u8, head: &Head) -> [u8; 1 + RELEASE_HEAD_
 {
     let mut bytes = [mark; 1 + RELEASE_HEAD_SIZE];
     bytes[1..].copy_from_slice(&head_bytes(head));
+    bytes
+}
+
+/// The fields of a record of a follower before its payload.
+pub(crate) fn followed_head_bytes(kind: u8, epoch: u32, head: &Head) -> [u8; FOLLOWED_HEAD_SIZE]
+    ensures { result ≡ kind ∷ to_be_bytes w32 epoch ++ head_text head.now }
+{
+    let mut bytes = [kind; FOLLOWED_HEAD_SIZE];
+    bytes[1..5].copy_from_slice(&epoch.to_be_bytes());
+    bytes[5..].copy_from_slice(&head_bytes(head));
     bytes
 }
 

@@ -9,3 +9,4 @@ pub mod Causes
 pub mod Refusals
 pub mod Refused
 pub mod Stopped
+pub mod Equals

@@ -3,6 +3,7 @@
 
 mod chain_row;
 mod chain_rows;
+mod equal;
 mod laws;
 mod line_words;
 mod lines;
@@ -12,6 +13,7 @@ mod setup;
 mod writing;
 
 pub use chain_row::ChainRow;
+pub use equal::first_equal;
 pub use laws::setups;
 pub use line_words::{cut, hex_in, value_in};
 pub use parsing::read_setup;

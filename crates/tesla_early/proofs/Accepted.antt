@@ -7,7 +7,7 @@ use Rattle.std.proofs.lemmas.Slice.Eq.{bytes_eq-Decides}
 use Rattle.sha2.specs.Sha256.{sha256}
 use Rattle.tesla_early.specs.Payloads.{promise_for, promise_of}
 use Rattle.tesla_early.specs.declared.promise.Promise.{Promise}
-use Rattle.tesla_receiver.specs.declared.history.Entry.{Entry}
+use Rattle.tesla_receiver.specs.Entries.{Entry}
 use Rattle.tesla_early.specs.Early.{Message, learnt}
 use Rattle.tesla_early.specs.Laws.{IsLearnt, Taught, TaughtPromise, WasEarly, WasPromised, origin_of}
 use Rattle.tesla_early.specs.Learnt.{Learnt, is_named}

@@ -6,7 +6,7 @@ use Rattle.tesla_base.specs.declared.release.Head.{Head}
 use Rattle.tesla_fitting.specs.declared.config.Config.{Config}
 use Rattle.tesla_receiver.specs.History.{IsLegal, arrivals_in, given_in, has_end, payload_of, reply_to, reply_with}
 use Rattle.tesla_receiver.specs.Packets.{released}
-use Rattle.tesla_receiver.specs.declared.history.Entry.{Entry}
+use Rattle.tesla_receiver.specs.Entries.{Entry}
 use Rattle.tesla_receiver.specs.declared.history.Entry.TheVariants.{Taken}
 use Rattle.tesla_receiver.proofs.Events.{legal_at}
 use Rattle.tesla_state.specs.declared.replies.Reply.TheVariants.{Given}

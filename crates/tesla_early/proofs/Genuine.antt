@@ -12,7 +12,7 @@ use Rattle.tesla_early.specs.Woven.{woven, woven_payload}
 use Rattle.tesla_early.specs.declared.promise.Promise.{Promise}
 use Rattle.tesla_early.proofs.Each.{is_woven_at, length-woven}
 use Rattle.tesla_early.proofs.Spelled.{plain_has_none, promise_read}
-use Rattle.tesla_receiver.specs.declared.history.Entry.{Entry}
+use Rattle.tesla_receiver.specs.Entries.{Entry}
 use Rattle.tesla_early.specs.Early.{Message}
 use Rattle.tesla_early.specs.Laws.{Collides, GivenAreOf, IsOneOf, NamesFit, WasEarly}
 use Rattle.tesla_early.proofs.Accepted.{was_promised}

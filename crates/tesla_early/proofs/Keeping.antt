@@ -10,8 +10,7 @@ use Rattle.tesla_early.specs.Payloads.{promise_of}
 use Rattle.tesla_early.specs.declared.promise.Promise.{Promise}
 use Rattle.tesla_receiver.specs.History.{Arrives, Ends, Takes, entry_of, reply_to}
 use Rattle.tesla_receiver.specs.Stands.{Stands}
-use Rattle.tesla_receiver.specs.declared.history.Arrival.{Arrival}
-use Rattle.tesla_receiver.specs.declared.history.Entry.{Entry}
+use Rattle.tesla_receiver.specs.Entries.{Arrival, Entry}
 use Rattle.tesla_receiver.specs.declared.history.Entry.TheVariants.{Arrived, Ended}
 use Rattle.tesla_state.specs.declared.replies.Reply.{Reply}
 use Rattle.tesla_state.specs.declared.replies.Reply.TheVariants as replies
@@ -52,7 +51,7 @@ last_changed most change xs same =
     ap (λ k. drop k (prefix ++ rest)) count ∙ drop-append_seam prefix rest
 
 -- none of an empty list
-none_last : {A : Type 0} (n : ℕ) (none : List A) → none ≡ [] → drop n none ≡ []
+pub none_last : {A : Type 0} (n : ℕ) (none : List A) → none ≡ [] → drop n none ≡ []
 none_last zero none h = h
 none_last (suc n) none h = ap (drop (suc n)) h
 
@@ -105,7 +104,7 @@ kept_accepted_is most entry ls kept (Some message) same =
 kept_accepted_is most entry ls kept None same = same
 
 -- a message came
-kept_with_message : (most entry : ℕ) (ls : List Learnt) (kept : List Kept) (message : Option Message) → kept ≡ map kept_of (last_of most ls) → kept_after most kept message ≡ map kept_of (last_of most (cond (is_promised most ls message) (accepted most ls entry message) ls))
+pub kept_with_message : (most entry : ℕ) (ls : List Learnt) (kept : List Kept) (message : Option Message) → kept ≡ map kept_of (last_of most ls) → kept_after most kept message ≡ map kept_of (last_of most (cond (is_promised most ls message) (accepted most ls entry message) ls))
 kept_with_message most entry ls kept message same =
     ap (λ b. cond b (kept_accepted most kept message) kept) (promised_kept most ls kept message same)
     ∙ (elim (is_promised most ls message) as (λ b. cond b (kept_accepted most kept message) kept ≡ map kept_of (last_of most (cond b (accepted most ls entry message) ls))) [ true ↦ kept_accepted_is most entry ls kept message same | false ↦ same ])
@@ -118,7 +117,7 @@ kept_given most kept (replies.Given head payload) = kept_with most kept (promise
 kept_given most kept replies.Empty = kept
 kept_given most kept replies.Over = kept
 
-kept_taken : (most entry : ℕ) (ls : List Learnt) (kept : List Kept) (reply : Reply) → kept ≡ map kept_of (last_of most ls) → kept_given most kept reply ≡ map kept_of (last_of most (given_learnt ls entry reply))
+pub kept_taken : (most entry : ℕ) (ls : List Learnt) (kept : List Kept) (reply : Reply) → kept ≡ map kept_of (last_of most ls) → kept_given most kept reply ≡ map kept_of (last_of most (given_learnt ls entry reply))
 kept_taken most entry ls kept (replies.Given head payload) same = kept_taught most entry ls kept (promise_of payload) same
 kept_taken most entry ls kept replies.Empty same = same
 kept_taken most entry ls kept replies.Over same = same

@@ -16,3 +16,4 @@ pub mod Each
 pub mod FromEnd
 pub mod Joined
 pub mod Spelled
+pub mod Cleared

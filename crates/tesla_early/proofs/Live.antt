@@ -7,8 +7,7 @@ use Rattle.tesla_early.specs.Payloads.{promise_for, promise_of}
 use Rattle.tesla_early.specs.Woven.{woven}
 use Rattle.tesla_early.proofs.Each.{woven_read}
 use Rattle.tesla_base.specs.declared.names.Name.{Name}
-use Rattle.tesla_receiver.specs.declared.history.Arrival.{Arrival}
-use Rattle.tesla_receiver.specs.declared.history.Entry.{Entry}
+use Rattle.tesla_receiver.specs.Entries.{Arrival, Entry}
 use Rattle.tesla_early.specs.Early.{Message, candidate, is_early, is_promised, learnt}
 use Rattle.tesla_early.specs.Laws.{IsLive, Taught}
 use Rattle.tesla_early.proofs.Accepted.{is_of_promise, learnt_once, taught_learnt}

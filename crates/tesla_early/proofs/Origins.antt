@@ -7,7 +7,7 @@ use Rattle.std.proofs.lemmas.Option.{slice_get_within, same_Some}
 use Rattle.tesla_base.proofs.Lists.{from_drop, slice_get-append}
 use Rattle.tesla_early.specs.Payloads.{promise_of}
 use Rattle.tesla_early.specs.declared.promise.Promise.{Promise}
-use Rattle.tesla_receiver.specs.declared.history.Entry.{Entry}
+use Rattle.tesla_receiver.specs.Entries.{Entry}
 use Rattle.tesla_early.specs.Early.{learnt}
 use Rattle.tesla_early.specs.Laws.{Taught, TaughtPromise, origin_of}
 use Rattle.tesla_early.specs.Learnt.{Learnt}

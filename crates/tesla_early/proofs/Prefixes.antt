@@ -4,8 +4,7 @@ use Rattle.std.proofs.lemmas.Bool.{cases_eq}
 use Rattle.std.proofs.lemmas.List.{append-nil, length-append, take_at}
 use Rattle.tesla_early.specs.Payloads.{promise_of}
 use Rattle.tesla_early.specs.declared.promise.Promise.{Promise}
-use Rattle.tesla_receiver.specs.declared.history.Arrival.{Arrival}
-use Rattle.tesla_receiver.specs.declared.history.Entry.{Entry}
+use Rattle.tesla_receiver.specs.Entries.{Arrival, Entry}
 use Rattle.tesla_receiver.proofs.EachAfter.{each_after-append}
 use Rattle.tesla_state.specs.Releases.{each_after}
 use Rattle.tesla_early.specs.Early.{learnt}

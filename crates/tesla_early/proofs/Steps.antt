@@ -8,8 +8,7 @@ use Rattle.sha2.specs.Sha256.{sha256}
 use Rattle.tesla_base.proofs.Lists.{slice_get-append}
 use Rattle.tesla_early.specs.Payloads.{promise_of}
 use Rattle.tesla_early.specs.declared.promise.Promise.{Promise}
-use Rattle.tesla_receiver.specs.declared.history.Arrival.{Arrival}
-use Rattle.tesla_receiver.specs.declared.history.Entry.{Entry}
+use Rattle.tesla_receiver.specs.Entries.{Arrival, Entry}
 use Rattle.tesla_receiver.specs.declared.history.Entry.TheVariants.{Arrived, Taken, Ended}
 use Rattle.tesla_state.specs.declared.replies.Reply.TheVariants.{Given, Empty, Over}
 use Rattle.tesla_early.specs.Early.{Message, accepted, candidate, is_early, is_promised, learnt}

@@ -5,7 +5,7 @@ use Rattle.std.proofs.lemmas.Bool.{cases_eq, cases_order, true≢false}
 use Rattle.std.proofs.lemmas.Option.{slice_get_within, same_Some}
 use Rattle.tesla_base.proofs.Lists.{slice_get-append}
 use Rattle.tesla_early.specs.Payloads.{promise_for}
-use Rattle.tesla_receiver.specs.declared.history.Entry.{Entry}
+use Rattle.tesla_receiver.specs.Entries.{Entry}
 use Rattle.tesla_early.specs.Early.{Message}
 use Rattle.tesla_early.specs.Laws.{Gave, TaughtPromise, Uses, WasEarly, origin_of}
 use Rattle.tesla_early.specs.Learnt.{taught_by}

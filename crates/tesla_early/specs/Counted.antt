@@ -1,7 +1,6 @@
 -- The messages of a history that were accepted on arrival, and how many.
 use Rattle.std.specs.Prelude.{ℕ, List, [], ◌∷◌, length, cond}
-use Rattle.tesla_receiver.specs.declared.history.Arrival.{Arrival}
-use Rattle.tesla_receiver.specs.declared.history.Entry.{Entry}
+use Rattle.tesla_receiver.specs.Entries.{Arrival, Entry}
 use Rattle.tesla_receiver.specs.declared.history.Entry.TheVariants.{Arrived, Taken, Ended}
 use Rattle.tesla_state.specs.Releases.{each_after}
 use Rattle.tesla_early.specs.Early.{is_early}

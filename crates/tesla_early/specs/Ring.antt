@@ -1,5 +1,5 @@
 -- How promises are kept: each at its place in a table, and the places of each bucket in a list. The places are used in turn, round a ring.
-use Rattle.std.specs.Prelude.{◌≡◌, ℕ, ◌+◌, ◌-◌, ◌*◌, ◌%◌, ◌==◌, ◌<◌, ◌≤◌, ◌⊎◌, Bool, false, List, [], ◌++◌, Option, Some, None, length, map, get_or, if◌then◌else◌}
+use Rattle.std.specs.Prelude.{◌≡◌, ℕ, zero, suc, ◌+◌, ◌-◌, ◌*◌, ◌%◌, ◌==◌, ◌<◌, ◌≤◌, ◌⊎◌, Bool, false, List, [], ◌++◌, Option, Some, None, length, map, get_or, if◌then◌else◌}
 use Rattle.std.specs.List.{filter, range_with_len}
 use Rattle.sha2.specs.Sha256.{sha256}
 use Rattle.tesla_base.specs.Members.{without}
@@ -57,6 +57,11 @@ count_after most count = if count == most then most else count + 1
 -- the lists once there is room for one promise more: where all places were taken, this one is in none
 abbrev pub room_made : ℕ → ℕ → ℕ → List (List ℕ) → List (List ℕ)
 room_made most count index lists = if count == most then map (without index) lists else lists
+
+-- the lists without the places below a number
+abbrev pub without_below : ℕ → List (List ℕ) → List (List ℕ)
+without_below zero lists = lists
+without_below (suc n) lists = map (without n) (without_below n lists)
 
 -- the list of each bucket has the places of its promises, in the order in which they were learnt
 pub record IsRing (most count next : ℕ) (buckets : Lists) (slots : List Slot) : Type 0 where

@@ -2,7 +2,7 @@
 use Rattle.std.specs.Prelude.{◌≡◌, ℕ, Bool, List, map}
 use Rattle.tesla_early.specs.declared.promise.Promise.{Promise}
 use Rattle.tesla_receiver.specs.Stands.{Stands}
-use Rattle.tesla_receiver.specs.declared.history.Entry.{Entry}
+use Rattle.tesla_receiver.specs.Entries.{Entry}
 use Rattle.tesla_state.specs.State.{State}
 use Rattle.tesla_early.specs.Early.{learnt}
 use Rattle.tesla_early.specs.Learnt.{Learnt, last_of}

@@ -4,20 +4,17 @@ ghost use Rattle.std.specs.Prelude.{◌≡◌, ◌+◌, ◌^◌, ◌<◌, ◌≤
 ghost use Rattle.tesla_base.specs.declared.names.ChainNo.{ChainNo};
 ghost use Rattle.tesla_frame.specs.Reading.{frame_of};
 ghost use Rattle.tesla_frame.specs.Shown.{shown};
-ghost use Rattle.tesla_early.specs.Payloads.{promise_of};
 ghost use Rattle.tesla_receiver.specs.Costs.{most_evaluations, most_offers};
 ghost use Rattle.tesla_receiver.specs.History.{Arrives, Takes, Ends, arrivals_in, entry_of, reply_to};
 ghost use Rattle.tesla_receiver.specs.Events.{waiting_in};
 ghost use Rattle.tesla_receiver.specs.Report.{report_of};
 ghost use Rattle.tesla_receiver.specs.Stands.{Stands};
-ghost use Rattle.tesla_receiver.specs.declared.history.Entry.{Entry};
+ghost use Rattle.tesla_receiver.specs.Entries.{Entry};
 ghost use Rattle.tesla_receiver.specs.declared.history.Entry.TheVariants.{Arrived};
 ghost use Rattle.tesla_state.specs.Replies.{reply_shown, KeepsBehind};
-ghost use Rattle.tesla_early.specs.Early.{is_early, may_be_early};
-ghost use Rattle.tesla_early.specs.Kept.{candidate_in, is_promised_by, kept_after, kept_with};
+ghost use Rattle.tesla_early.specs.Early.{is_early};
 ghost use Rattle.tesla_early.specs.Stands.{EarlyStands};
 
-use crate::promise_of;
 use crate::promises::Promises;
 use std::alloc::Global;
 use std::marker::Model;
@@ -49,50 +46,6 @@ impl Model for Early {
     ghost Value = { EarlyState };
 
     ghost view = { λ e. record { receiver = e.receiver; promises = e.promises } };
-}
-
-/// Whether the frame of a message with this verdict fits the setup, and its keys were taken.
-fn may_be_early(verdict: Verdict) -> bool
-    ensures { result ≡ may_be_early verdict }
-{
-    matches!(
-        verdict,
-        Verdict::Late | Verdict::Repeat | Verdict::Full | Verdict::Kept { .. }
-    )
-}
-
-/// Learns the promise of a payload, where it has one.
-fn learn_from(promises: &mut Promises, payload: &[u8])
-    ensures most { promises.new.most ≡ promises.old.most }
-    ensures reserved { promises.new.reserved ≡ promises.old.reserved }
-    ensures kept { promises.new.kept ≡ kept_with promises.old.most promises.old.kept (promise_of payload.now) }
-{
-    if let Some(promise) = promise_of(payload) {
-        promises.learn(&promise);
-    }
-}
-
-/// Accepts the message of a frame with this verdict where one of the promises that aren't used is of it: that promise is
-/// used, and what the payload promises is learnt.
-#[tactic(auto, using(crate::proofs::Using::none_used))]
-fn accept(promises: &mut Promises, verdict: Verdict, frame: Option<&FrameView<'_>>) -> bool
-    ensures most { promises.new.most ≡ promises.old.most }
-    ensures reserved { promises.new.reserved ≡ promises.old.reserved }
-    ensures early { result ≡ is_promised_by promises.old.kept (candidate_in verdict (option_map shown (option_copied frame.entry))) }
-    ensures kept { promises.new.kept ≡ kept_after promises.old.most promises.old.kept (candidate_in verdict (option_map shown (option_copied frame.entry))) }
-{
-    if !may_be_early(verdict) {
-        return false;
-    }
-    let Some(FrameView::Data(data)) = frame else {
-        return false;
-    };
-    let payload = data.payload();
-    if !promises.use_up(data.name(), payload) {
-        return false;
-    }
-    learn_from(promises, payload);
-    true
 }
 
 impl Early {
@@ -171,7 +124,7 @@ impl Early {
             .arrive_read(ingest, reading, bytes, frame, steps);
         EarlyVerdict {
             verdict,
-            early: accept(&mut self.promises, verdict, frame),
+            early: self.promises.accept(verdict, frame),
         }
     }
 
@@ -191,7 +144,7 @@ impl Early {
         let take = self.receiver.take(releaser, into);
         match take {
             Take::Given(head) => {
-                learn_from(&mut self.promises, &into[..usize::from(head.length)]);
+                self.promises.learn_of(&into[..usize::from(head.length)]);
             }
             Take::Empty => {}
             Take::Over => {}

@@ -7,7 +7,7 @@ ghost use Rattle.tesla_base.specs.Members.{is_in};
 ghost use Rattle.tesla_links.specs.Lists.{list_of};
 ghost use Rattle.tesla_early.specs.Kept.{is_of_message, is_of_name, use_first_kept};
 ghost use Rattle.tesla_early.specs.Learnt.{last_of};
-ghost use Rattle.tesla_early.specs.Ring.{IsDigest, bucket_of, count_after, is_found, kept_in, index_after, room_made};
+ghost use Rattle.tesla_early.specs.Ring.{IsDigest, bucket_of, count_after, is_found, kept_in, index_after, room_made, without_below};
 
 use crate::{Promise, hash_of};
 use std::alloc::Global;
@@ -138,6 +138,18 @@ fn is_of_message(slot: &Slot, name: Name, payload: &[u8], digest: &mut Option<[u
     slot.promise.hash.as_slice() == hash.as_slice()
 }
 
+/// Takes the places below this number out of their buckets.
+fn take_out(buckets: &mut Links, places: u32)
+    requires { (p : ℕ) → p < places → list_any (is_in p) buckets.old.lists ≡ true }
+    ensures slot_count { buckets.new.slot_count ≡ buckets.old.slot_count }
+    ensures reserved { buckets.new.reserved ≡ buckets.old.reserved }
+    ensures lists { buckets.new.lists ≡ without_below places buckets.old.lists }
+{
+    for place in 0..places {
+        buckets.remove(place);
+    }
+}
+
 /// The first place of a bucket whose promise isn't used and is of a message of this name with this payload; `None` exactly
 /// where there is none. The payload is hashed once at most, and only where a promise of this name isn't used.
 fn find_index(
@@ -196,6 +208,29 @@ impl Promises {
         };
         self.count = count_after(self.most, self.count);
         self.next = index_after(self.most, place);
+    }
+
+    /// Tells whether a promise isn't used and is of a message of this name with this payload. The payload is hashed only
+    /// where a promise of this name isn't used.
+    pub fn has(&self, name: Name, payload: &[u8]) -> bool
+        ensures { result ≡ list_any (is_of_message name (sha256 payload.now)) self.now.kept }
+    {
+        let bucket = bucket(self.most, name);
+        match find_index(&self.buckets, self.slots.as_slice(), bucket, name, payload) {
+            Some(_place) => true,
+            None => false,
+        }
+    }
+
+    /// Forgets all promises. It takes no memory, and goes over those that were kept.
+    pub fn clear(&mut self)
+        ensures most { self.new.most ≡ self.old.most }
+        ensures reserved { self.new.reserved ≡ self.old.reserved }
+        ensures none { self.new.kept ≡ [] }
+    {
+        take_out(&mut self.buckets, self.count);
+        self.count = 0;
+        self.next = 0;
     }
 
     /// Uses the first promise that isn't used and is of a message of this name with this payload, and tells whether there is

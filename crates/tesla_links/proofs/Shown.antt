@@ -77,7 +77,7 @@ pub record HasEntries (f : Inside) (seen : Entries) (g key : ℕ) : Type 0 where
   pub unmarked : filter (is_unmarked_under key) seen.entries ≡ map (entry_at f) (list_of f.unmarked g)
 
 module _ (f : Inside) (seen : Entries) (room : ℕ) (view : Shows f seen room) (k : IsKept f) where
-  shown : seen.entries ≡ map (entry_at f) (list_of f.order 0)
+  pub shown : seen.entries ≡ map (entry_at f) (list_of f.order 0)
   shown = seen_entries f.capacity f.order f.unmarked f.groups.items f.keys.slots seen view
 
   pub listed_at : (p : ℕ) → list_any (is_at p) seen.entries ≡ true → IsListed f p

@@ -179,6 +179,13 @@ impl Index {
         }
     }
 
+    /// The slot of the entry that came first of all; `None` exactly where there is none.
+    pub fn oldest(&self) -> Option<u32>
+        ensures { result ≡ first_slot self.now.entries }
+    {
+        self.order.first(0)
+    }
+
     /// How many entries there are.
     pub fn len(&self) -> u32
         ensures { result ≡ length self.now.entries }

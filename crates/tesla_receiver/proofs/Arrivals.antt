@@ -13,8 +13,7 @@ use Rattle.tesla_fitting.specs.declared.config.Config.{Config}
 use Rattle.tesla_fitting.specs.declared.verdict.Verdict.{Verdict}
 use Rattle.tesla_fitting.specs.Fitting.{stream_of, is_misfit, is_future}
 use Rattle.tesla_fitting.specs.Rows.{keys_of}
-use Rattle.tesla_receiver.specs.declared.history.Arrival.{Arrival}
-use Rattle.tesla_receiver.specs.declared.history.Entry.{Entry}
+use Rattle.tesla_receiver.specs.Entries.{Arrival, Entry}
 use Rattle.tesla_receiver.specs.declared.history.Entry.TheVariants.{Arrived, Taken, Ended}
 use Rattle.tesla_receiver.specs.Answer.{is_bad, refusal, verdict_taken, verdict_on, verdict_of, late_arrival}
 use Rattle.tesla_receiver.specs.History.{IsLegalAfter, IsLegal, arrivals_in, given_in}

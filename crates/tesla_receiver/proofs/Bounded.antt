@@ -17,7 +17,7 @@ use Rattle.tesla_frame.specs.Frame.{Frame, Data, Disclosure, TagRow, ChainsRise}
 use Rattle.tesla_frame.specs.Reading.{frame_of}
 use Rattle.tesla_frame.specs.declared.row.KeyRow.{KeyRow}
 use Rattle.tesla_fitting.specs.declared.config.Config.{Config}
-use Rattle.tesla_receiver.specs.declared.history.Entry.{Entry}
+use Rattle.tesla_receiver.specs.Entries.{Entry}
 use Rattle.tesla_fitting.specs.Fitting.{stream_of, version_in, is_early, is_outside, fields_misfit, is_misfit, is_future}
 use Rattle.tesla_fitting.specs.Config.{chains, chain_row}
 use Rattle.tesla_state.specs.Costs.{is_unread, gaps_by, is_reached_by, reached_by, pairs_by, most_on, most_by}

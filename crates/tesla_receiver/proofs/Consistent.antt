@@ -12,8 +12,7 @@ use Rattle.tesla_base.proofs.Filtered.{fails_fewer, found_filtered}
 use Rattle.tesla_base.proofs.Numbered.{each_gathered}
 use Rattle.tesla_base.proofs.Passing.{any_before, any_further, any_taken, passes_at, passes_somewhere}
 use Rattle.tesla_fitting.specs.declared.config.Config.{Config}
-use Rattle.tesla_receiver.specs.declared.history.Arrival.{Arrival}
-use Rattle.tesla_receiver.specs.declared.history.Entry.{Entry}
+use Rattle.tesla_receiver.specs.Entries.{Arrival, Entry}
 use Rattle.tesla_receiver.specs.declared.packet.Packet.{Packet}
 use Rattle.tesla_walks.specs.declared.release.Release.{Release}
 use Rattle.tesla_state.specs.declared.report.Report.{Report}

@@ -1,8 +1,7 @@
 -- A receiver's state stands for no event, also for fewer ingests, and for one end more.
 use Rattle.std.proofs.Common.{◌≡◌, ℕ, zero, suc, ◌+◌, ◌≤◌, true, false, List, [], ◌∷◌, ◌++◌, length-append, map, take, drop, set, replicate, refl, ap, sym, ◌∙◌, arith}
 use Rattle.tesla_fitting.specs.declared.config.Config.{Config}
-use Rattle.tesla_receiver.specs.declared.history.Arrival.{Arrival}
-use Rattle.tesla_receiver.specs.declared.history.Entry.{Entry}
+use Rattle.tesla_receiver.specs.Entries.{Arrival, Entry}
 use Rattle.tesla_receiver.specs.declared.history.Entry.TheVariants.{Ended}
 use Rattle.tesla_fitting.specs.Config.{chains}
 use Rattle.tesla_receiver.specs.History.{Ends, entry_of, arrivals_in, given_in}

@@ -5,7 +5,7 @@ use Rattle.std.proofs.lemmas.List.{append-nil}
 use Rattle.std.proofs.lemmas.List.Concat.{flat_map-append}
 use Rattle.std.proofs.lemmas.List.Sums.{sum_by-append}
 use Rattle.tesla_fitting.specs.declared.config.Config.{Config}
-use Rattle.tesla_receiver.specs.declared.history.Entry.{Entry}
+use Rattle.tesla_receiver.specs.Entries.{Entry}
 use Rattle.tesla_receiver.specs.History.{Event, event_of, entry_of, IsLegalAfter, IsLegal, arrival_in, arrivals_in, gives, given_in}
 use Rattle.tesla_receiver.specs.Events.{after_events}
 use Rattle.tesla_receiver.proofs.Standing.{entered_legal}

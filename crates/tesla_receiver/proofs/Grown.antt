@@ -2,7 +2,7 @@
 use Rattle.std.proofs.Common.{◌≡◌, cond, List, [], ◌∷◌, ◌++◌, sym, ap, ◌∙◌}
 use Rattle.std.specs.Prelude.{filter, nat_lt}
 use Rattle.tesla_fitting.specs.declared.config.Config.{Config}
-use Rattle.tesla_receiver.specs.declared.history.Arrival.{Arrival}
+use Rattle.tesla_receiver.specs.Entries.{Arrival}
 use Rattle.tesla_state.specs.Releases.{each_after}
 use Rattle.tesla_receiver.specs.Keys.{takes_keys, keys_in, keys_taken, newest, new_keys}
 use Rattle.tesla_fitting.specs.declared.verdict.Verdict.{Verdict}

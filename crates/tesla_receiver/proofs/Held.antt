@@ -7,7 +7,7 @@ use Rattle.std.proofs.lemmas.List.{append-nil}
 use Rattle.std.proofs.lemmas.List.Sums.{sum_by_push}
 use Rattle.tesla_clock.specs.Safe.{has_chain}
 use Rattle.tesla_fitting.specs.declared.config.Config.{Config}
-use Rattle.tesla_receiver.specs.declared.history.Arrival.{Arrival}
+use Rattle.tesla_receiver.specs.Entries.{Arrival}
 use Rattle.tesla_receiver.specs.declared.packet.Packet.{Packet}
 use Rattle.tesla_walks.specs.declared.release.Release.{Release}
 use Rattle.tesla_fitting.specs.Config.{chains}

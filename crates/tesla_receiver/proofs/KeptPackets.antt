@@ -17,7 +17,7 @@ use Rattle.tesla_fitting.specs.declared.verdict.Verdict.TheVariants.{Foreign, Mi
 use Rattle.tesla_fitting.specs.Config.{chain_row}
 use Rattle.tesla_fitting.specs.Fitting.{stream_of, is_misfit, is_future}
 use Rattle.tesla_fitting.specs.Rows.{keys_of}
-use Rattle.tesla_receiver.specs.declared.history.Arrival.{Arrival}
+use Rattle.tesla_receiver.specs.Entries.{Arrival}
 use Rattle.tesla_receiver.specs.declared.packet.Packet.{Packet}
 use Rattle.tesla_receiver.specs.Answer.{is_bad, refusal, safe_chains, verdict_taken, late_arrival}
 use Rattle.tesla_receiver.specs.Arrivals.{IsSafeOn, KeptAreSafe}

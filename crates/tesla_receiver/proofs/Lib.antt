@@ -36,3 +36,4 @@ pub mod Arrivals
 pub mod KeptPackets
 pub mod NewKeys
 pub mod ProvedPackets
+pub mod Undelivered

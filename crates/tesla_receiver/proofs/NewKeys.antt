@@ -21,7 +21,7 @@ use Rattle.tesla_fitting.specs.declared.verdict.Verdict.TheVariants.{Foreign, Mi
 use Rattle.tesla_fitting.specs.Config.{chain_row}
 use Rattle.tesla_fitting.specs.Fitting.{fields_misfit, is_early, is_future, is_misfit, is_outside, stream_of, version_in}
 use Rattle.tesla_fitting.specs.Rows.{carried, is_of, keys_of}
-use Rattle.tesla_receiver.specs.declared.history.Arrival.{Arrival}
+use Rattle.tesla_receiver.specs.Entries.{Arrival}
 use Rattle.tesla_receiver.specs.Answer.{is_bad}
 use Rattle.tesla_receiver.specs.Arrivals.{FreshAreNew, NewAreFresh, NewAreTaken, NewestRises}
 use Rattle.tesla_receiver.specs.History.{arrivals_in}

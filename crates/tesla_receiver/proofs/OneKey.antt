@@ -11,7 +11,7 @@ use Rattle.tesla_frame.specs.Frame.{TagRow, Frame, Data, Disclosure, ChainsRise}
 use Rattle.tesla_frame.specs.Reading.{frame_of}
 use Rattle.tesla_frame.proofs.Rising.{disclosed_rise}
 use Rattle.tesla_fitting.specs.declared.config.Config.{Config}
-use Rattle.tesla_receiver.specs.declared.history.Arrival.{Arrival}
+use Rattle.tesla_receiver.specs.Entries.{Arrival}
 use Rattle.tesla_fitting.specs.Config.{chain_row}
 use Rattle.tesla_fitting.specs.Rows.{carried, keys_of, is_of}
 use Rattle.tesla_receiver.specs.Keys.{keys_in, takes_keys, keys_taken, newest, new_keys}

@@ -6,8 +6,7 @@ use Rattle.tesla_frame.specs.Reading.{frame_of}
 use Rattle.tesla_frame.specs.declared.row.KeyRow.{KeyRow}
 use Rattle.tesla_fitting.specs.declared.config.Config.{Config}
 use Rattle.tesla_fitting.specs.declared.verdict.Verdict.{Verdict}
-use Rattle.tesla_receiver.specs.declared.history.Arrival.{Arrival}
-use Rattle.tesla_receiver.specs.declared.history.Entry.{Entry}
+use Rattle.tesla_receiver.specs.Entries.{Arrival, Entry}
 use Rattle.tesla_receiver.specs.Answer.{verdict_of}
 use Rattle.tesla_receiver.specs.History.{Arrives, entry_of, IsLegal, arrivals_in, given_in, has_end}
 use Rattle.tesla_receiver.specs.Keys.{takes_keys, keys_in, newest, new_keys}

@@ -7,7 +7,9 @@ use Rattle.std.proofs.lemmas.List.Folds.{list_any-append}
 use Rattle.std.proofs.lemmas.List.Sums.{sum_by_push}
 use Rattle.tesla_base.proofs.Lists.{map_same, map_number_set}
 use Rattle.tesla_fitting.specs.declared.config.Config.{Config}
-use Rattle.tesla_receiver.specs.declared.history.Entry.{Entry}
+use Rattle.tesla_fitting.specs.declared.verdict.Verdict.{Verdict}
+use Rattle.tesla_state.specs.declared.replies.Reply.{Reply}
+use Rattle.tesla_receiver.specs.Entries.{Entry}
 use Rattle.tesla_receiver.specs.declared.history.Entry.TheVariants.{Ended}
 use Rattle.tesla_receiver.specs.History.{Event, Arrives, Takes, Ends, event_of, entry_of, IsLegalAfter, IsLegal, gives, given_in, ends, has_end}
 
@@ -44,7 +46,7 @@ ended_more h ingest n =
     ∙ map_same (λ k. has_end h k || (0 + ingest == k)) (has_end (h ++ Ended ingest ∷ [])) (range_with_len 0 n) (λ k. ap (λ j. has_end h k || (j == k)) (omega arith) ∙ sym (has_end_more h (Ended ingest) k))
 
 -- no ingest has ended in the empty history
-pub none_ended : (a n : ℕ) → replicate n false ≡ map (has_end []) (range_with_len a n)
+pub none_ended : (a n : ℕ) → replicate n false ≡ map (has_end {V = Verdict} {R = Reply} []) (range_with_len a n)
 none_ended a zero = refl
 none_ended a (suc n) = ap (λ ys. false ∷ ys) (none_ended (a + 1) n)
 

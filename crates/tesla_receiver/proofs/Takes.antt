@@ -11,8 +11,7 @@ use Rattle.tesla_base.proofs.Lists.{drop_next, first_in, next_first}
 use Rattle.tesla_base.proofs.Numbered.{flat_map-flat_map, gathered_same}
 use Rattle.tesla_keys.specs.Tip.{Tip}
 use Rattle.tesla_fitting.specs.declared.config.Config.{Config}
-use Rattle.tesla_receiver.specs.declared.history.Arrival.{Arrival}
-use Rattle.tesla_receiver.specs.declared.history.Entry.{Entry}
+use Rattle.tesla_receiver.specs.Entries.{Arrival, Entry}
 use Rattle.tesla_state.specs.declared.replies.Reply.TheVariants.{Given}
 use Rattle.tesla_receiver.specs.declared.packet.Packet.{Packet}
 use Rattle.tesla_walks.specs.declared.release.Release.{Release}

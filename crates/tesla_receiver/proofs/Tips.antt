@@ -18,8 +18,7 @@ use Rattle.tesla_keys.specs.Tip.{Tip}
 use Rattle.tesla_keys.specs.declared.offer.Offer.TheVariants.{Old, Good, Bad}
 use Rattle.tesla_prf.specs.Keys.{walk}
 use Rattle.tesla_fitting.specs.declared.config.Config.{Config}
-use Rattle.tesla_receiver.specs.declared.history.Arrival.{Arrival}
-use Rattle.tesla_receiver.specs.declared.history.Entry.{Entry}
+use Rattle.tesla_receiver.specs.Entries.{Arrival, Entry}
 use Rattle.tesla_fitting.specs.declared.verdict.Verdict.{Verdict}
 use Rattle.tesla_fitting.specs.declared.verdict.Verdict.TheVariants.{Foreign, Misfit, Future, BadKey}
 use Rattle.tesla_fitting.specs.Fitting.{stream_of, is_misfit, is_future}

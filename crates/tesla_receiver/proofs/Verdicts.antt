@@ -5,7 +5,7 @@ use Rattle.tesla_clock.specs.Schedule.{bound_of}
 use Rattle.tesla_frame.specs.Frame.{Frame}
 use Rattle.tesla_frame.specs.Reading.{frame_of}
 use Rattle.tesla_fitting.specs.declared.config.Config.{Config}
-use Rattle.tesla_receiver.specs.declared.history.Arrival.{Arrival}
+use Rattle.tesla_receiver.specs.Entries.{Arrival}
 use Rattle.tesla_fitting.specs.declared.verdict.Verdict.{Verdict}
 use Rattle.tesla_fitting.specs.declared.verdict.Verdict.TheVariants.{Malformed}
 use Rattle.tesla_receiver.specs.Answer.{refusal, verdict_taken, verdict_on, verdict_of, late_arrival}

@@ -12,8 +12,7 @@ use Rattle.tesla_frame.specs.declared.row.KeyRow.{KeyRow}
 use Rattle.tesla_receiver.specs.History.{IsLegal, arrivals_in}
 use Rattle.tesla_receiver.specs.Keys.{fresh_keys, is_good, keys_in, new_keys, newest}
 use Rattle.tesla_receiver.specs.Packets.{packet_of, proves, released}
-use Rattle.tesla_receiver.specs.declared.history.Arrival.{Arrival}
-use Rattle.tesla_receiver.specs.declared.history.Entry.{Entry}
+use Rattle.tesla_receiver.specs.Entries.{Arrival, Entry}
 use Rattle.tesla_receiver.specs.declared.packet.Packet.{Packet}
 use Rattle.tesla_state.specs.Releases.{has_name}
 

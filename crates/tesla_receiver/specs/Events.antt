@@ -2,7 +2,7 @@
 use Rattle.std.specs.Prelude.{◌≡◌, ℕ, suc, ◌-◌, List, [], ◌∷◌, ◌++◌, length, map, replicate}
 use Rattle.tesla_fitting.specs.declared.config.Config.{Config}
 use Rattle.tesla_base.specs.declared.release.Head.{Head}
-use Rattle.tesla_receiver.specs.declared.history.Entry.{Entry}
+use Rattle.tesla_receiver.specs.Entries.{Entry}
 use Rattle.tesla_receiver.specs.declared.history.Entry.TheVariants.{Taken, Ended}
 use Rattle.tesla_state.specs.declared.replies.Reply.TheVariants.{Given, Over}
 use Rattle.tesla_receiver.specs.Packets.{released}

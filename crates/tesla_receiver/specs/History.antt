@@ -3,8 +3,8 @@ use Rattle.std.specs.Prelude.{◌≡◌, ℕ, Bool, true, false, List, [], ◌�
 use Rattle.std.specs.List.{list_any, list_all, range_with_len}
 use Rattle.tesla_frame.specs.Frame.{Frame, Data, Disclosure}
 use Rattle.tesla_frame.specs.Reading.{frame_of}
-use Rattle.tesla_receiver.specs.declared.history.Arrival.{Arrival}
-use Rattle.tesla_receiver.specs.declared.history.Entry.{Entry}
+use Rattle.tesla_receiver.specs.Entries.{Arrival, Entry}
+use Rattle.tesla_receiver.specs.declared.history.Entry as entries
 use Rattle.tesla_receiver.specs.declared.history.Entry.TheVariants.{Arrived, Taken, Ended}
 use Rattle.tesla_state.specs.declared.replies.Reply.{Reply}
 use Rattle.tesla_state.specs.declared.replies.Reply.TheVariants.{Given, Empty, Over}
@@ -54,13 +54,14 @@ held_in cfg history = held_of cfg (arrivals_in history) (given_in history) None
 abbrev pub held_of_interval : Config → List Entry → ℕ → ℕ
 held_of_interval cfg history interval = held_of cfg (arrivals_in history) (given_in history) (Some interval)
 
-abbrev pub ends : ℕ → Entry → Bool
-ends ingest (Ended other) = other == ingest
-ends ingest (Arrived arrival) = false
-ends ingest (Taken releaser reply) = false
+module _ {V R : Type 0} where
+  abbrev pub ends : ℕ → entries.Entry V R → Bool
+  ends ingest (Ended other) = other == ingest
+  ends ingest (Arrived arrival) = false
+  ends ingest (Taken releaser reply) = false
 
-abbrev pub has_end : List Entry → ℕ → Bool
-has_end history ingest = list_any (ends ingest) history
+  abbrev pub has_end : List (entries.Entry V R) → ℕ → Bool
+  has_end history ingest = list_any (ends ingest) history
 
 abbrev pub payload_in : Option Frame → List ℕ
 payload_in (Some (Data f)) = f.payload

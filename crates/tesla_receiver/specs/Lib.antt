@@ -1,3 +1,4 @@
+pub mod Entries
 pub mod Keys
 pub mod Packets
 pub mod Held
@@ -11,3 +12,4 @@ pub mod Consistent
 pub mod Costs
 pub mod Refusals
 pub mod Arrivals
+pub mod Undelivered

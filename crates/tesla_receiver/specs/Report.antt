@@ -1,7 +1,6 @@
 -- The counts of a history.
 use Rattle.std.specs.Prelude.{ℕ, List, length, ◌==◌, count_by}
-use Rattle.tesla_receiver.specs.declared.history.Arrival.{Arrival}
-use Rattle.tesla_receiver.specs.declared.history.Entry.{Entry}
+use Rattle.tesla_receiver.specs.Entries.{Arrival, Entry}
 use Rattle.tesla_state.specs.declared.report.Report.{Report}
 use Rattle.tesla_receiver.specs.History.{arrivals_in, given_in}
 use Rattle.tesla_state.specs.Counting.{line_of}

@@ -2,7 +2,7 @@
 use Rattle.std.specs.Prelude.{ℕ, List, fold}
 use Rattle.tesla_keys.specs.Tip.{Tip}
 use Rattle.tesla_fitting.specs.declared.config.Config.{Config}
-use Rattle.tesla_receiver.specs.declared.history.Arrival.{Arrival}
+use Rattle.tesla_receiver.specs.Entries.{Arrival}
 use Rattle.tesla_receiver.specs.Keys.{fresh_keys}
 use Rattle.tesla_walks.specs.Tips.{first_tip, raised}
 

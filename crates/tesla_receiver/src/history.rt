@@ -6,17 +6,17 @@ use tesla_state::Reply;
 
 /// A datagram that came, with the reading of the receiver's clock in microseconds, and its verdict.
 #[derive(Debug, Drop)]
-pub struct Arrival {
+pub struct Arrival<V = Verdict> {
     pub ingest: u8,
     pub reading: u64,
     pub bytes: Text,
-    pub verdict: Verdict,
+    pub verdict: V,
 }
 
-/// One event of a receiver, with its answer.
+/// One event of a receiver, with its answer. Without parameters it is of a receiver of one stream.
 #[derive(Debug, Drop)]
-pub enum Entry {
-    Arrived(Arrival),
-    Taken { releaser: u8, reply: Reply },
+pub enum Entry<V = Verdict, R = Reply> {
+    Arrived(Arrival<V>),
+    Taken { releaser: u8, reply: R },
     Ended { ingest: u8 },
 }

@@ -4,8 +4,7 @@ ghost use Rattle.std.specs.Prelude.{◌≡◌, ◌<◌, ◌≤◌, ◌↔◌, �
 ghost use Rattle.tesla_frame.specs.declared.row.KeyRow.{KeyRow};
 ghost use Rattle.tesla_keys.specs.Offers.{offer_of, IsGood};
 ghost use Rattle.tesla_fitting.specs.declared.config.Config.{Config};
-ghost use Rattle.tesla_receiver.specs.declared.history.Arrival.{Arrival};
-ghost use Rattle.tesla_receiver.specs.declared.history.Entry.{Entry};
+ghost use Rattle.tesla_receiver.specs.Entries.{Arrival, Entry};
 ghost use Rattle.tesla_walks.specs.declared.release.Release.{Release};
 ghost use Rattle.tesla_receiver.specs.Answer.{verdict_of};
 ghost use Rattle.tesla_receiver.specs.Arrivals.{FreshAreNew, KeptAreSafe, NewAreFresh, NewAreTaken, NewestRises, ProvedAreReleased};

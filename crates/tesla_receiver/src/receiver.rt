@@ -3,16 +3,18 @@
 ghost use Rattle.std.specs.Prelude.{◌≡◌, ◌+◌, ◌^◌, ◌<◌, ◌≤◌, ◌++◌, ◌∷◌, [], List, if◌then◌else◌, IfOk, nat_lt, option_copied, option_map, ◌&&◌};
 ghost use Rattle.tesla_frame.specs.Reading.{frame_of};
 ghost use Rattle.tesla_frame.specs.Shown.{shown};
-ghost use Rattle.tesla_receiver.specs.declared.history.Entry.{Entry};
+ghost use Rattle.tesla_receiver.specs.Entries.{Entry};
 ghost use Rattle.tesla_receiver.specs.declared.history.Entry.TheVariants.{Arrived};
 ghost use Rattle.tesla_base.specs.declared.names.ChainNo.{ChainNo};
 ghost use Rattle.tesla_receiver.specs.Costs.{most_evaluations, most_offers};
 ghost use Rattle.tesla_receiver.specs.History.{Arrives, Takes, Ends, arrivals_in, entry_of, has_end, reply_to, held_in};
 ghost use Rattle.tesla_receiver.specs.Events.{waiting_in};
+ghost use Rattle.tesla_state.specs.Kept.{CountsWithin};
 ghost use Rattle.tesla_state.specs.Replies.{reply_shown, KeepsBehind};
 ghost use Rattle.tesla_state.specs.Steps.{with_ingests};
 ghost use Rattle.tesla_receiver.specs.Report.{report_of};
 ghost use Rattle.tesla_receiver.specs.Stands.{Stands};
+ghost use Rattle.tesla_receiver.specs.Undelivered.{undelivered_in};
 
 use std::alloc::Global;
 use std::marker::Model;
@@ -155,6 +157,19 @@ impl Receiver {
         self.kept.limit_ingests(ingests);
     }
 
+    /// Begins anew with another setup, as if it had been opened with it and the same lag, capacity, quota and ingests: it
+    /// stands for the empty history, in which no ingest has ended. It tells how many packets were held that weren't given. It
+    /// takes no memory, and goes over the packets that were held.
+    pub fn reopen(&mut self, setup: Setup) -> u32
+        ensures dropped { (h : List Entry) → Stands self.old h → result ≡ undelivered_in self.old.config h }
+        ensures stands { Stands self.new [] }
+        ensures config { self.new.config ≡ record self.old.config { setup = setup } }
+        ensures reserved { self.new.reserved ≡ self.old.reserved }
+        ensures calls { self.new.calls ≡ 0 }
+    {
+        self.kept.reopen(setup)
+    }
+
     /// Whether an ingest has ended. One at or above the number of ingests counts for nothing, and hasn't.
     pub fn has_ended(&self, ingest: u8) -> bool
         ensures { (h : List Entry) → Stands self.now h → result ≡ (nat_lt ingest self.now.config.ingests && has_end h ingest) }
@@ -171,7 +186,8 @@ impl Receiver {
 
     /// The counts of the history.
     pub fn report(&self) -> Report
-        ensures { (h : List Entry) → Stands self.now h → result ≡ report_of h }
+        ensures value { (h : List Entry) → Stands self.now h → result ≡ report_of h }
+        ensures few { CountsWithin self.now.calls result }
     {
         self.kept.report()
     }

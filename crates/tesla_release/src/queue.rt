@@ -70,6 +70,14 @@ impl Queue {
         Some(entry)
     }
 
+    /// Lets go of all entries that wait, and counts from 0 again. It takes no memory.
+    pub fn clear(&mut self)
+        ensures { self.new ≡ record self.old { waiting = []; given = 0 } }
+    {
+        self.entries.clear();
+        self.given = 0;
+    }
+
     /// How many entries were given, at most 2^64 - 1.
     pub fn given(&self) -> u64
         ensures { result ≡ self.now.given }

@@ -2,7 +2,7 @@
 use Rattle.std.proofs.Common.{◌≡◌, ℕ, List, [], ◌∷◌, ◌++◌, ap, ◌∙◌}
 use Rattle.std.proofs.lemmas.List.{append-nil}
 use Rattle.std.proofs.lemmas.List.Concat.{flat_map-append}
-use Rattle.tesla_receiver.specs.declared.history.Entry.{Entry}
+use Rattle.tesla_receiver.specs.Entries.{Entry}
 use Rattle.tesla_replay.specs.Records.{record_in, records_of}
 
 -- the records of two histories, one after the other

@@ -5,7 +5,7 @@ use Rattle.std.proofs.lemmas.Bool.{ltb-true, and_parts}
 use Rattle.tesla_base.proofs.Lists.{list_all-take, slice_get-append}
 use Rattle.tesla_capture.specs.Release.{release_text}
 use Rattle.tesla_fitting.specs.declared.config.Config.{Config}
-use Rattle.tesla_receiver.specs.declared.history.Arrival.{Arrival}
+use Rattle.tesla_receiver.specs.Entries.{Arrival}
 use Rattle.tesla_walks.specs.declared.release.Release.{Release}
 use Rattle.tesla_state.specs.Releases.{head_of}
 use Rattle.tesla_receiver.specs.Packets.{released}

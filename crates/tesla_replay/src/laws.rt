@@ -4,7 +4,7 @@ ghost use Rattle.std.specs.Prelude.{◌≡◌, ◌++◌, ℕ, Bool, List, true};
 ghost use Rattle.tesla_capture.specs.Capture.{Record};
 ghost use Rattle.tesla_fitting.specs.declared.config.Config.{Config};
 ghost use Rattle.tesla_receiver.specs.History.{IsLegal, arrivals_in};
-ghost use Rattle.tesla_receiver.specs.declared.history.Entry.{Entry};
+ghost use Rattle.tesla_receiver.specs.Entries.{Entry};
 ghost use Rattle.tesla_replay.specs.Played.{played};
 ghost use Rattle.tesla_replay.specs.Records.{records_of, released_text};
 

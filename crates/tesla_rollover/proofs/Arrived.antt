@@ -8,8 +8,7 @@ use Rattle.tesla_frame.specs.Reading.{frame_of}
 use Rattle.tesla_receiver.specs.Costs.{most_evaluations}
 use Rattle.tesla_receiver.specs.History.{Arrives, arrivals_in, entry_of}
 use Rattle.tesla_receiver.specs.Stands.{Stands}
-use Rattle.tesla_receiver.specs.declared.history.Arrival.{Arrival}
-use Rattle.tesla_receiver.specs.declared.history.Entry.{Entry}
+use Rattle.tesla_receiver.specs.Entries.{Arrival, Entry}
 use Rattle.tesla_receiver.specs.declared.history.Entry.TheVariants.{Arrived}
 use Rattle.tesla_state.specs.State.{State}
 use Rattle.tesla_rollover.specs.Epochs.{arrival_at, arrived_at, epoch_for, epoch_with, roll_entry_of}
@@ -28,7 +27,7 @@ pub record ArrivesAt (old : RollState) (h : List RollEntry) (ingest reading : �
   pub stands : (history : List Entry) → Stands before history → Stands after (history ++ entry_of before.config history (Arrives ingest reading bytes) ∷ [])
   pub config : after.config ≡ before.config
 
-arrival_same : (x y : Arrival) → Arrived x ≡ Arrived y → x ≡ y
+arrival_same : (x y : Arrival) → ◌≡◌ {A = Entry} (Arrived x) (Arrived y) → x ≡ y
 arrival_same x y same = cc
 
 module _ (old : RollState) (h : List RollEntry) (ingest reading : ℕ) (bytes : List ℕ) (epoch : ℕ) (verdict : Verdict) (before after : State) (st : RollStands old h) (at : ArrivesAt old h ingest reading bytes epoch verdict before after) where

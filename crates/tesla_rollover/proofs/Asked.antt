@@ -4,7 +4,7 @@ use Rattle.std.specs.List.{AllByRecursion}
 use Rattle.tesla_base.specs.declared.release.Head.{Head}
 use Rattle.tesla_receiver.specs.History.{Takes, entry_of, reply_to}
 use Rattle.tesla_receiver.specs.Stands.{Stands}
-use Rattle.tesla_receiver.specs.declared.history.Entry.{Entry}
+use Rattle.tesla_receiver.specs.Entries.{Entry}
 use Rattle.tesla_receiver.specs.declared.history.Entry.TheVariants.{Taken}
 use Rattle.tesla_state.specs.State.{State}
 use Rattle.tesla_state.specs.declared.replies.Reply.{Reply}

@@ -6,7 +6,7 @@ use Rattle.std.proofs.lemmas.List.Sums.{sum_by-cons}
 use Rattle.tesla_commit.specs.Parts.{Parts}
 use Rattle.tesla_fitting.specs.declared.config.Config.{Config}
 use Rattle.tesla_receiver.specs.Events.{waiting_in}
-use Rattle.tesla_receiver.specs.declared.history.Entry.{Entry}
+use Rattle.tesla_receiver.specs.Entries.{Entry}
 use Rattle.tesla_state.specs.State.{State}
 use Rattle.tesla_rollover.specs.History.{RollEntry, config_at, configs_in, epoch_count, history_at}
 use Rattle.tesla_rollover.specs.Kept.{HasIngests, IsCalled, IsRollKept, OpensEpoch, configs_of, receivers_of, waiting_of}

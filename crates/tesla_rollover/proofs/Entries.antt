@@ -10,11 +10,11 @@ use Rattle.std.proofs.lemmas.List.Folds.{list_any-append}
 use Rattle.tesla_base.proofs.Filtered.{filter_same}
 use Rattle.tesla_commit.specs.Parts.{Parts}
 use Rattle.tesla_receiver.specs.History.{has_end, ends}
-use Rattle.tesla_receiver.specs.declared.history.Arrival.{Arrival}
-use Rattle.tesla_receiver.specs.declared.history.Entry.{Entry}
+use Rattle.tesla_receiver.specs.Entries.{Arrival, Entry}
 use Rattle.tesla_receiver.specs.declared.history.Entry.TheVariants.{Arrived, Ended}
 use Rattle.tesla_receiver.proofs.EachAfter.{each_after_more}
 use Rattle.tesla_state.specs.Releases.{each_after}
+use Rattle.tesla_fitting.specs.declared.verdict.Verdict.{Verdict}
 use Rattle.tesla_state.specs.declared.replies.Reply.{Reply}
 use Rattle.tesla_rollover.specs.History.{RollEntry, RollArrived, RollTaken, RollEnded, opens, setup_opened, setups_opened, epoch_count, roll_ends, has_roll_end, ends_before, taken_on, entries_on, history_at}
 use Rattle.tesla_rollover.specs.Kept.{ends_in}
@@ -80,7 +80,7 @@ ends_first ingests ingest before (e ∷ h) =
     never true n = grind (arith, nat_tests)
     never false n = refl
 
-    arrived_none : (b : Bool) (arrival : Arrival) → has_end (cond b (Arrived arrival ∷ []) []) ingest ≡ false
+    arrived_none : (b : Bool) (arrival : Arrival) → has_end {R = Reply} (cond b (Arrived arrival ∷ []) []) ingest ≡ false
     arrived_none true arrival = refl
     arrived_none false arrival = refl
 
@@ -91,7 +91,7 @@ ends_first ingests ingest before (e ∷ h) =
         ∙ taken_none releaser (slice_get answers 0)
     end_in (RollEnded other) =
         let within : nat_lt 0 (epoch_count before) ≡ true = grind (arith, nat_tests) in
-        ap (λ b. has_end (cond b (Ended other ∷ []) []) ingest) within ∙ or-false (other == ingest)
+        ap (λ b. has_end {V = Verdict} {R = Reply} (cond b (Ended other ∷ []) []) ingest) within ∙ or-false (other == ingest)
 
 pub has_end_first : (ingests : ℕ) (h : List RollEntry) (ingest : ℕ) → has_end (history_at ingests h 0) ingest ≡ has_roll_end h ingest
 unfolding history_at

@@ -15,11 +15,11 @@ use Rattle.tesla_fitting.specs.declared.config.Config.{Config}
 use Rattle.tesla_receiver.specs.History.{Ends, Takes, arrival_in, arrivals_in, ends, given_in, gives, has_end, payload_of, reply_to, reply_with}
 use Rattle.tesla_receiver.specs.Packets.{candidates, released}
 use Rattle.tesla_receiver.specs.Events.{waiting_in}
-use Rattle.tesla_receiver.specs.declared.history.Arrival.{Arrival}
-use Rattle.tesla_receiver.specs.declared.history.Entry.{Entry}
+use Rattle.tesla_receiver.specs.Entries.{Arrival, Entry}
 use Rattle.tesla_receiver.specs.declared.history.Entry.TheVariants.{Taken, Ended}
 use Rattle.tesla_receiver.proofs.Events.{arrivals_more}
 use Rattle.tesla_state.specs.Releases.{head_of}
+use Rattle.tesla_fitting.specs.declared.verdict.Verdict.{Verdict}
 use Rattle.tesla_state.specs.declared.replies.Reply.{Reply}
 use Rattle.tesla_state.specs.declared.replies.Reply.TheVariants.{Given, Over}
 use Rattle.tesla_walks.specs.declared.release.Release.{Release}
@@ -291,8 +291,8 @@ module _ (cfg : Config) (h : List RollEntry) (all : EndedAll cfg h) where
 
       ended_new : has_end (ends_before cfg.ingests h) 0 ≡ true
       ended_new =
-          ap (λ (n : ℕ). has_end (map (λ (ingest : ℕ). Ended ingest) (filter (has_roll_end h) (range_with_len 0 n))) 0) all.one
-          ∙ ap (λ (b : Bool). has_end (map (λ (ingest : ℕ). Ended ingest) (cond b (0 ∷ []) [])) 0) all.ended
+          ap (λ (n : ℕ). has_end {V = Verdict} {R = Reply} (map (λ (ingest : ℕ). Ended ingest) (filter (has_roll_end h) (range_with_len 0 n))) 0) all.one
+          ∙ ap (λ (b : Bool). has_end {V = Verdict} {R = Reply} (map (λ (ingest : ℕ). Ended ingest) (cond b (0 ∷ []) [])) 0) all.ended
 
   ended_then : EndedAll cfg (h ++ entry ∷ [])
   ended_then = record {

@@ -13,7 +13,7 @@ use Rattle.tesla_commit.specs.Parts.{Parts}
 use Rattle.tesla_commit.specs.declared.refusal.SetupKind.{SetupKind}
 use Rattle.tesla_fitting.specs.declared.config.Config.{Config}
 use Rattle.tesla_receiver.specs.History.{Event, Arrives, Takes, Ends}
-use Rattle.tesla_receiver.specs.declared.history.Entry.{Entry}
+use Rattle.tesla_receiver.specs.Entries.{Entry}
 use Rattle.tesla_receiver.specs.declared.history.Entry.TheVariants.{Taken}
 use Rattle.tesla_state.specs.declared.replies.Reply.{Reply}
 use Rattle.tesla_state.specs.declared.replies.Reply.TheVariants.{Given, Empty, Over}

@@ -11,7 +11,7 @@ use Rattle.tesla_fitting.specs.declared.config.Config.{Config}
 use Rattle.tesla_frame.specs.Frame.{Frame}
 use Rattle.tesla_frame.specs.Reading.{frame_of}
 use Rattle.tesla_receiver.specs.History.{Event, Arrives, Takes, Ends}
-use Rattle.tesla_receiver.specs.declared.history.Entry.{Entry}
+use Rattle.tesla_receiver.specs.Entries.{Entry}
 use Rattle.tesla_receiver.specs.declared.history.Entry.TheVariants.{Arrived, Ended}
 use Rattle.tesla_state.specs.declared.replies.Reply.{Reply}
 use Rattle.tesla_rollover.specs.Epochs.{answers_in, arrival_at, epoch_for, epoch_with, IsRollLegal, IsRollLegalAfter, next_of, payload_given, reply_at, roll_entry_of, up_to_given, has_stream}

@@ -14,7 +14,7 @@ use Rattle.tesla_fitting.specs.declared.config.Config.{Config}
 use Rattle.tesla_base.specs.declared.names.StreamId.{StreamId}
 use Rattle.tesla_receiver.specs.History.{has_end}
 use Rattle.tesla_receiver.specs.Stands.{Stands}
-use Rattle.tesla_receiver.specs.declared.history.Entry.{Entry}
+use Rattle.tesla_receiver.specs.Entries.{Entry}
 use Rattle.tesla_receiver.specs.declared.history.Entry.TheVariants.{Ended}
 use Rattle.tesla_state.specs.State.{State}
 use Rattle.tesla_rollover.specs.Epochs.{has_stream, next_judged, next_of, next_spelled}

@@ -4,7 +4,7 @@ use Rattle.std.proofs.lemmas.List.{get_or_append_left, map-append}
 use Rattle.std.proofs.lemmas.List.Concat.{flat_map-append}
 use Rattle.tesla_commit.specs.Parts.{Parts}
 use Rattle.tesla_fitting.specs.declared.config.Config.{Config}
-use Rattle.tesla_receiver.specs.declared.history.Entry.{Entry}
+use Rattle.tesla_receiver.specs.Entries.{Entry}
 use Rattle.tesla_receiver.proofs.EachAfter.{each_after-append}
 use Rattle.tesla_state.specs.Releases.{each_after}
 use Rattle.tesla_rollover.specs.Epochs.{IsRollLegal, IsRollLegalAfter}

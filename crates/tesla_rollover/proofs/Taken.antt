@@ -10,7 +10,7 @@ use Rattle.tesla_base.specs.declared.release.Head.{Head}
 use Rattle.tesla_fitting.specs.declared.config.Config.{Config}
 use Rattle.tesla_receiver.specs.History.{Takes, has_end}
 use Rattle.tesla_receiver.specs.Stands.{Stands}
-use Rattle.tesla_receiver.specs.declared.history.Entry.{Entry}
+use Rattle.tesla_receiver.specs.Entries.{Entry}
 use Rattle.tesla_receiver.specs.declared.history.Entry.TheVariants.{Taken, Ended}
 use Rattle.tesla_receiver.proofs.Standing.{has_end_more}
 use Rattle.tesla_state.specs.State.{State}

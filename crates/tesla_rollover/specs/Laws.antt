@@ -4,7 +4,7 @@ use Rattle.tesla_base.specs.declared.release.Head.{Head}
 use Rattle.tesla_fitting.specs.declared.config.Config.{Config}
 use Rattle.tesla_receiver.specs.History.{arrivals_in, given_in, payload_of}
 use Rattle.tesla_receiver.specs.Packets.{released}
-use Rattle.tesla_receiver.specs.declared.history.Entry.{Entry}
+use Rattle.tesla_receiver.specs.Entries.{Entry}
 use Rattle.tesla_receiver.specs.declared.history.Entry.TheVariants.{Taken}
 use Rattle.tesla_state.specs.Releases.{head_of}
 use Rattle.tesla_state.specs.declared.replies.Reply.{Reply}

@@ -3,7 +3,7 @@ use Rattle.std.specs.Prelude.{◌≡◌, ℕ, List, [], ◌∷◌, length, map}
 use Rattle.std.specs.List.{range_with_len}
 use Rattle.tesla_fitting.specs.declared.config.Config.{Config}
 use Rattle.tesla_receiver.specs.Stands.{Stands}
-use Rattle.tesla_receiver.specs.declared.history.Entry.{Entry}
+use Rattle.tesla_receiver.specs.Entries.{Entry}
 use Rattle.tesla_state.specs.State.{State}
 use Rattle.tesla_rollover.specs.Epochs.{IsRollLegal}
 use Rattle.tesla_rollover.specs.History.{RollEntry, configs_in, epoch_count, history_at, roll_given_in}

@@ -2,7 +2,7 @@
 
 ghost use Rattle.std.specs.Prelude.{◌≡◌, ◌+◌, ◌*◌, ◌^◌, ◌<◌, ◌≤◌, ℕ, List, length, map};
 ghost use Rattle.std.specs.List.{AllByRecursion};
-ghost use Rattle.tesla_receiver.specs.declared.history.Entry.{Entry};
+ghost use Rattle.tesla_receiver.specs.Entries.{Entry};
 ghost use Rattle.tesla_rollover.specs.Epochs.{up_to_given};
 ghost use Rattle.tesla_rollover.specs.Kept.{AskedKeepsBehind, IsCalled, asked_from, asked_shown, configs_of, receivers_of, replies_of, rooms_of, waiting_of, with_end, with_takes};
 ghost use Rattle.tesla_rollover.specs.Stands.{StandAll};

@@ -3,7 +3,7 @@
 ghost use Rattle.std.specs.Prelude.{◌≡◌, ◌≢◌, ◌↔◌, ◌++◌, ℕ, List, Some, true, false};
 ghost use Rattle.tesla_fitting.specs.declared.config.Config.{Config};
 ghost use Rattle.tesla_receiver.specs.History.{IsLegal};
-ghost use Rattle.tesla_receiver.specs.declared.history.Entry.{Entry};
+ghost use Rattle.tesla_receiver.specs.Entries.{Entry};
 ghost use Rattle.tesla_rollover.specs.Epochs.{IsRollLegal, next_of};
 ghost use Rattle.tesla_rollover.specs.Handover.{IsHandover, handover_text};
 ghost use Rattle.tesla_rollover.specs.History.{RollEntry, config_at, configs_in, history_at};

@@ -6,7 +6,7 @@ use Rattle.tesla_desk.proofs.Told.{after_bytes_some}
 use Rattle.tesla_fitting.specs.declared.config.Config.{Config}
 use Rattle.tesla_front.specs.OutcomeView.{OutcomeView, Refused}
 use Rattle.tesla_receiver.specs.History.{IsLegal, entry_of, event_of}
-use Rattle.tesla_receiver.specs.declared.history.Entry.{Entry}
+use Rattle.tesla_receiver.specs.Entries.{Entry}
 use Rattle.tesla_records.specs.Found.{AwaitsAt}
 use Rattle.tesla_records.specs.Records.{AtEnd, Refuses, Outline, outline_at, head_at, with_head, refusal_by}
 use Rattle.tesla_records.specs.Steps.{Gives, MovesHead, Progress, ReadsHead, ahead, goes_on, pending}

@@ -18,7 +18,7 @@ use Rattle.tesla_front.specs.declared.fault.Fault.{Fault}
 use Rattle.tesla_front.specs.declared.fault.Fault.TheVariants as faults
 use Rattle.tesla_front.proofs.Commands.{memory_alone}
 use Rattle.tesla_receiver.specs.History.{IsLegal}
-use Rattle.tesla_receiver.specs.declared.history.Entry.{Entry}
+use Rattle.tesla_receiver.specs.Entries.{Entry}
 use Rattle.tesla_trace.specs.Grammar.{IsTrace}
 use Rattle.tesla_trace.specs.declared.kind.TraceKind.{TraceKind}
 use Rattle.tesla_audit.specs.Outline.{TraceOutline, trace_outline}

@@ -11,7 +11,7 @@ use Rattle.tesla_front.specs.declared.fault.Fault.TheVariants as faults
 use Rattle.tesla_front.specs.declared.refusal.Refusal.{Refusal}
 use Rattle.tesla_receiver.specs.History.{IsLegal, entry_of, event_of}
 use Rattle.tesla_receiver.specs.Stands.{Stands}
-use Rattle.tesla_receiver.specs.declared.history.Entry.{Entry}
+use Rattle.tesla_receiver.specs.Entries.{Entry}
 use Rattle.tesla_receiver.specs.declared.history.Entry.TheVariants.{Arrived, Taken, Ended}
 use Rattle.tesla_records.specs.Found.{AwaitsAt}
 use Rattle.tesla_records.specs.Records.{record_offset}

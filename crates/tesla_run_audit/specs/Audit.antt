@@ -12,7 +12,7 @@ use Rattle.tesla_front.specs.Refusal.{refused_line}
 use Rattle.tesla_front.specs.Setup.{IsSetupIn}
 use Rattle.tesla_front.specs.declared.fault.Fault.TheVariants as faults
 use Rattle.tesla_receiver.specs.History.{IsLegal}
-use Rattle.tesla_receiver.specs.declared.history.Entry.{Entry}
+use Rattle.tesla_receiver.specs.Entries.{Entry}
 use Rattle.tesla_records.specs.Taken.{HoldsNoRefusal}
 use Rattle.tesla_trace.specs.Grammar.{trace}
 use Rattle.tesla_trace.specs.Names.{kind_name}

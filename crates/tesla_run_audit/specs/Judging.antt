@@ -8,7 +8,7 @@ use Rattle.tesla_front.specs.Refusal.{refused_line}
 use Rattle.tesla_front.specs.declared.fault.Fault.TheVariants as faults
 use Rattle.tesla_front.specs.declared.refusal.Stop.{Stop}
 use Rattle.tesla_receiver.specs.Stands.{Stands}
-use Rattle.tesla_receiver.specs.declared.history.Entry.{Entry}
+use Rattle.tesla_receiver.specs.Entries.{Entry}
 use Rattle.tesla_records.specs.Grammar.{limit}
 use Rattle.tesla_records.specs.Steps.{Progress, ahead}
 use Rattle.tesla_records.specs.Taken.{IsTaken}

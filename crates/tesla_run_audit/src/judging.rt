@@ -6,7 +6,7 @@ ghost use Rattle.tesla_desk.specs.Faults.{HasCause};
 ghost use Rattle.tesla_fitting.specs.declared.config.Config.{Config};
 ghost use Rattle.tesla_front.specs.OutcomeView.{Failed, result_view};
 ghost use Rattle.tesla_front.specs.declared.fault.Fault.TheVariants as faults;
-ghost use Rattle.tesla_receiver.specs.declared.history.Entry.{Entry};
+ghost use Rattle.tesla_receiver.specs.Entries.{Entry};
 ghost use Rattle.tesla_receiver.specs.Stands.{Stands};
 ghost use Rattle.tesla_records.specs.Grammar.{limit};
 ghost use Rattle.tesla_records.specs.Steps.{goes_on};

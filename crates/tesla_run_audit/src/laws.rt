@@ -12,7 +12,7 @@ ghost use Rattle.tesla_front.specs.Lines.{count_line};
 ghost use Rattle.tesla_front.specs.Run.{NothingFailed};
 ghost use Rattle.tesla_front.specs.declared.fault.Fault.TheVariants as faults;
 ghost use Rattle.tesla_receiver.specs.History.{IsLegal};
-ghost use Rattle.tesla_receiver.specs.declared.history.Entry.{Entry};
+ghost use Rattle.tesla_receiver.specs.Entries.{Entry};
 ghost use Rattle.tesla_trace.specs.Grammar.{IsTrace};
 ghost use Rattle.tesla_audit.specs.Outline.{trace_outline};
 ghost use Rattle.tesla_audit.specs.Wrong.{IsFirstWrong};

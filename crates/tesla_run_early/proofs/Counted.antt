@@ -1,7 +1,7 @@
 -- A receiver that is played events, and how many arrivals of them were early.
 use Rattle.std.proofs.Common.{◌≡◌, ◌∙◌, ◌+◌, ◌≤◌, ◌<◌, ◌^◌, ℕ, Bool, true, false, cond, List, [], ◌∷◌, ◌++◌, length, length-append, sym, ap, subst, arith}
 use Rattle.tesla_fitting.specs.declared.config.Config.{Config}
-use Rattle.tesla_receiver.specs.declared.history.Entry.{Entry}
+use Rattle.tesla_receiver.specs.Entries.{Entry}
 use Rattle.tesla_receiver.specs.History.{Event, entry_of}
 use Rattle.tesla_receiver.specs.Events.{after_events}
 use Rattle.tesla_receiver.proofs.EachAfter.{each_after_more}

@@ -1,7 +1,6 @@
 -- What is written of an arrival, told whether it is early.
 use Rattle.std.proofs.Common.{◌≡◌, ◌∙◌, ℕ, Bool, true, false, cond, Option, None, List, [], ◌∷◌, length, if◌then◌else◌, refl, sym, ap}
-use Rattle.tesla_receiver.specs.declared.history.Arrival.{Arrival}
-use Rattle.tesla_receiver.specs.declared.history.Entry.{Entry}
+use Rattle.tesla_receiver.specs.Entries.{Arrival, Entry}
 use Rattle.tesla_receiver.specs.declared.history.Entry.TheVariants.{Arrived}
 use Rattle.tesla_early.specs.Early.{Message, is_early, is_promised, learnt, may_be_early, message_of}
 use Rattle.tesla_early.specs.Learnt.{Learnt}

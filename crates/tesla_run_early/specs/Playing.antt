@@ -3,7 +3,7 @@ use Rattle.std.specs.Prelude.{◌≡◌, ◌≤◌, ℕ, List, [], ◌++◌, cod
 use Rattle.tesla_fitting.specs.declared.config.Config.{Config}
 use Rattle.tesla_front.specs.Lines.{count_line}
 use Rattle.tesla_receiver.specs.Report.{report_of}
-use Rattle.tesla_receiver.specs.declared.history.Entry.{Entry}
+use Rattle.tesla_receiver.specs.Entries.{Entry}
 use Rattle.tesla_early.specs.Stands.{EarlyState, EarlyStands}
 use Rattle.tesla_early.specs.Counted.{early_count}
 use Rattle.tesla_run_early.specs.Records.{early_record_in}

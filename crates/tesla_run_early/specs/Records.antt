@@ -1,7 +1,7 @@
 -- What is written of a history: the packets that were given, and the messages that were accepted on arrival.
 use Rattle.std.specs.Prelude.{ℕ, ◌==◌, List, [], Option, Some, None, cond, if◌then◌else◌}
 use Rattle.tesla_capture.specs.Release.{accepted_text, marked_text}
-use Rattle.tesla_receiver.specs.declared.history.Entry.{Entry}
+use Rattle.tesla_receiver.specs.Entries.{Entry}
 use Rattle.tesla_receiver.specs.declared.history.Entry.TheVariants.{Arrived, Taken, Ended}
 use Rattle.tesla_state.specs.Releases.{each_after}
 use Rattle.tesla_state.specs.declared.replies.Reply.{Reply}

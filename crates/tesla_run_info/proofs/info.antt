@@ -1,4 +1,3 @@
-pub mod Others
 pub mod Years
 pub mod Chains
 pub mod Clocks

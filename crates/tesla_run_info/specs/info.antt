@@ -2,5 +2,5 @@ pub mod Arguments
 pub mod Calendar
 pub mod Left
 pub mod Lines
-pub mod Equal
+pub mod Rows
 pub mod Telling

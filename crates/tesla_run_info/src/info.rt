@@ -8,5 +8,6 @@ mod left;
 mod lines;
 mod run;
 
+pub use equal::unequal;
 pub use form::INFO;
 pub use run::run_info;

@@ -5,7 +5,7 @@ use Rattle.tesla_capture.specs.Outline.{outline_of}
 use Rattle.tesla_capture.specs.declared.record.RecordKind.{RecordKind}
 use Rattle.tesla_fitting.specs.declared.config.Config.{Config}
 use Rattle.tesla_front.specs.OutcomeView.{Done}
-use Rattle.tesla_receiver.specs.declared.history.Entry.{Entry}
+use Rattle.tesla_receiver.specs.Entries.{Entry}
 use Rattle.tesla_receiver.specs.History.{Event, Takes, Ends, entry_of}
 use Rattle.tesla_receiver.specs.Events.{after_events, waiting_in}
 use Rattle.tesla_receiver.proofs.Events.{after_one}

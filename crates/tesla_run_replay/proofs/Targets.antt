@@ -1,7 +1,7 @@
 -- A receiver that is played events.
 use Rattle.std.proofs.Common.{◌≡◌, ◌∙◌, List, [], ◌∷◌, ◌++◌, sym, ap, subst}
 use Rattle.tesla_fitting.specs.declared.config.Config.{Config}
-use Rattle.tesla_receiver.specs.declared.history.Entry.{Entry}
+use Rattle.tesla_receiver.specs.Entries.{Entry}
 use Rattle.tesla_receiver.specs.History.{Event, entry_of}
 use Rattle.tesla_state.specs.State.{State}
 use Rattle.tesla_receiver.specs.Stands.{Stands}

@@ -10,7 +10,7 @@ use Rattle.tesla_receiver.specs.History.{Event, Arrives, Takes, Ends, entry_of}
 use Rattle.tesla_replay.specs.Played.{event_in}
 use Rattle.tesla_receiver.specs.Events.{after_events, waiting_in}
 use Rattle.tesla_receiver.specs.Report.{report_of}
-use Rattle.tesla_receiver.specs.declared.history.Entry.{Entry}
+use Rattle.tesla_receiver.specs.Entries.{Entry}
 use Rattle.tesla_replay.specs.Records.{record_in}
 use Rattle.tesla_state.specs.Releases.{each_after}
 use Rattle.tesla_convert.specs.Meaning.{Meaning}

@@ -5,7 +5,7 @@ use Rattle.std.proofs.lemmas.List.{map-append}
 use Rattle.std.proofs.lemmas.List.Concat.{flat_map-append}
 use Rattle.tesla_capture.specs.Capture.{Record}
 use Rattle.tesla_fitting.specs.declared.config.Config.{Config}
-use Rattle.tesla_receiver.specs.declared.history.Entry.{Entry}
+use Rattle.tesla_receiver.specs.Entries.{Entry}
 use Rattle.tesla_receiver.specs.History.{Event, Takes, Ends, entry_of}
 use Rattle.tesla_replay.specs.Played.{event_in, played}
 use Rattle.tesla_receiver.specs.Events.{after_events, waiting_in}

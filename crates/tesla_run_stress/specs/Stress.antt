@@ -4,7 +4,7 @@ use Rattle.tesla_front.specs.OutcomeView.{OutcomeView, Done, Failed}
 use Rattle.tesla_front.specs.Command.{Command}
 use Rattle.tesla_front.specs.Openings.{File}
 use Rattle.tesla_front.specs.declared.fault.Fault.TheVariants as faults
-use Rattle.tesla_receiver.specs.declared.history.Entry.{Entry}
+use Rattle.tesla_receiver.specs.Entries.{Entry}
 use Rattle.tesla_replay.specs.Played.{played}
 use Rattle.tesla_receiver.specs.Report.{report_of}
 use Rattle.tesla_run_replay.specs.ReportText.{report_text}

@@ -4,7 +4,7 @@ ghost use Rattle.std.specs.Prelude.{◌≡◌, ◌+◌, ◌^◌, ◌<◌, ◌≤
 ghost use Rattle.tesla_capture.specs.Capture.{Record, Arrives};
 ghost use Rattle.tesla_capture.specs.Capture as captures;
 ghost use Rattle.tesla_fitting.specs.declared.config.Config.{Config};
-ghost use Rattle.tesla_receiver.specs.declared.history.Entry.{Entry};
+ghost use Rattle.tesla_receiver.specs.Entries.{Entry};
 ghost use Rattle.tesla_receiver.specs.History.{Takes};
 ghost use Rattle.tesla_replay.specs.Played.{played};
 ghost use Rattle.tesla_receiver.specs.Events.{after_events};

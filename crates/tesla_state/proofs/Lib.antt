@@ -13,3 +13,4 @@ pub mod KeysTaken
 pub mod TakenNext
 pub mod Arrived
 pub mod StaysKept
+pub mod Untaken

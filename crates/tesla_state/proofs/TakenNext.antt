@@ -106,8 +106,8 @@ needed_taken cfg tips order held h =
 later_counts : (calls : ℕ) (r : Report) → CountsWithin calls r → CountsWithin (calls + 1) (record r { given = r.given + 1 })
 later_counts calls r w = search rules
 
-pub kept_taken : (cfg : Config) (tips : List Tip) (old new : Stored) (walks_room batch_room : ℕ) (counts : Report) (calls : ℕ) (head : Head) (before after : List ℕ) → IsKept cfg tips old walks_room batch_room counts calls → calls + 1 < 2 ^ 64 → new.capacity ≡ old.capacity → new.chains ≡ old.chains → IsGiven cfg tips counts.given old new head before after → IsKept cfg tips new walks_room batch_room (record counts { given = counts.given + 1 }) (calls + 1)
-kept_taken cfg tips old new walks_room batch_room counts calls head before after k fits capacity chains g =
+pub kept_taken : (cfg : Config) (tips : List Tip) (old new : Stored) (tips_room walks_room batch_room ended_room : ℕ) (counts : Report) (calls : ℕ) (head : Head) (before after : List ℕ) → IsKept cfg tips old tips_room walks_room batch_room ended_room counts calls → calls + 1 < 2 ^ 64 → new.capacity ≡ old.capacity → new.chains ≡ old.chains → IsGiven cfg tips counts.given old new head before after → IsKept cfg tips new tips_room walks_room batch_room ended_room (record counts { given = counts.given + 1 }) (calls + 1)
+kept_taken cfg tips old new tips_room walks_room batch_room ended_room counts calls head before after k fits capacity chains g =
     let order : ℕ = g.packet.holding.order in
     let held : map holding_at new.held ≡ flat_map (taken_after cfg tips order) (map holding_at old.held) = ap (map holding_at) g.held ∙ held_taken cfg tips order old.held in
     let given : old.given ≡ counts.given = k.given in
@@ -117,8 +117,10 @@ kept_taken cfg tips old new walks_room batch_room counts calls head before after
       tips_each = k.tips_each;
       chains = chains ∙ k.chains;
       capacity = capacity ∙ k.capacity;
+      eight_tips = k.eight_tips;
       eight = k.eight;
       room = k.room;
+      flags = k.flags;
       orders = subst (RiseBy gathering.order_of) (sym held) (gives_rising gathering.order_of gathering.order_of (taken_after cfg tips order) (own_taken cfg tips order) (map holding_at old.held) k.orders);
       before = subst (All (IsBefore counts.arrivals)) (sym held) (own_before (taken_after cfg tips order) counts.arrivals (own_taken cfg tips order) (map holding_at old.held) k.before);
       needed = subst (AreNeeded cfg tips) (sym g.held) (needed_taken cfg tips order old.held k.needed);

@@ -63,13 +63,16 @@ pub record AreTaken (cfg : Config) (tips later : List Tip) (new : List KeyRow) (
 abbrev pub IsBefore : ℕ → Holding → Type 0
 IsBefore count item = item.order < count
 
--- there is a newest key for each chain, and room for all that can be held; what is held has rising numbers and is needed
-pub record IsKept (cfg : Config) (tips : List Tip) (store : Stored) (walks_room batch_room : ℕ) (counts : Report) (calls : ℕ) : Type 0 where
+-- there is a newest key for each chain, and room for all that can be held, also with another setup and for any number of
+-- ingests; what is held has rising numbers and is needed
+pub record IsKept (cfg : Config) (tips : List Tip) (store : Stored) (tips_room walks_room batch_room ended_room : ℕ) (counts : Report) (calls : ℕ) : Type 0 where
   pub tips_each : length tips ≡ length cfg.setup.rows
   pub chains : store.chains ≡ length cfg.setup.rows
   pub capacity : store.capacity ≡ cfg.capacity
+  pub eight_tips : 8 ≤ tips_room
   pub eight : 8 ≤ walks_room
   pub room : cfg.capacity ≤ batch_room
+  pub flags : 255 ≤ ended_room
   pub orders : RiseBy order_of (map holding_at store.held)
   pub before : All (IsBefore counts.arrivals) (map holding_at store.held)
   pub needed : AreNeeded cfg tips store.held

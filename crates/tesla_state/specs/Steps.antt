@@ -117,6 +117,10 @@ safe_by s (Some bound) interval =
 abbrev pub is_named_so : Name → Holding → Bool
 is_named_so name item = item.released && has_name name (as_release item)
 
+-- a packet wasn't taken
+abbrev pub is_untaken : Holding → Bool
+is_untaken item = not item.taken
+
 abbrev pub in_interval : ℕ → Holding → Bool
 in_interval interval item = item.name.interval == interval
 

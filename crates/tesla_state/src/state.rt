@@ -1,18 +1,19 @@
 //! What a receiver keeps, moved by each event.
 
-ghost use Rattle.std.specs.Prelude.{◌≡◌, ◌+◌, ◌^◌, ◌<◌, ◌≤◌, [], IfOk, get_or, length, map, option_copied, option_map, replicate, false};
+ghost use Rattle.std.specs.Prelude.{◌≡◌, ◌+◌, ◌^◌, ◌<◌, ◌≤◌, [], IfOk, get_or, length, map, option_copied, option_map, replicate, false, count_by};
 ghost use Rattle.tesla_fitting.specs.Config.{chains};
 ghost use Rattle.tesla_frame.specs.Reading.{frame_of};
 ghost use Rattle.tesla_frame.specs.Shown.{shown};
 ghost use Rattle.tesla_base.specs.declared.names.ChainNo.{ChainNo};
 ghost use Rattle.tesla_state.specs.Costs.{most_by, offers_by};
+ghost use Rattle.tesla_state.specs.Kept.{CountsWithin};
 ghost use Rattle.tesla_state.specs.Replies.{reply_shown, KeepsBehind};
-ghost use Rattle.tesla_state.specs.Steps.{opened, judged, after_arrival, reply_by, after_take, after_end, after_limit};
+ghost use Rattle.tesla_state.specs.Steps.{is_untaken, opened, judged, after_arrival, reply_by, after_take, after_end, after_limit};
 ghost use Rattle.tesla_walks.specs.Tips.{first_tip};
 
 use crate::arriving::receive;
 use crate::counts::count;
-use crate::ended::{all_set, mark};
+use crate::ended::{all_set, mark, unset};
 use crate::tables::Tables;
 use crate::{Report, Store, Take};
 use std::alloc::Global;
@@ -22,7 +23,7 @@ use tesla_base::{MOST_PAYLOAD, NoMemory, Steps};
 use tesla_commit::Setup;
 use tesla_fitting::{Config, Verdict};
 use tesla_frame::FrameView;
-use tesla_walks::first_tips;
+use tesla_walks::{begin_tips, first_tips};
 
 /// The counts before any event.
 const NOTHING: Report = Report {
@@ -59,7 +60,7 @@ impl Model for ReceiverState {
 
     ghost view = { λ k. state_in k.tables k.ended.items k.counts k.calls (reserved_in (vec_capacity k.tables.tips) k.tables.store (vec_capacity k.tables.walks) (vec_capacity k.tables.batch) (vec_capacity k.ended)) };
 
-    ghost invariant = { λ k. IsKept k.tables.config k.tables.tips.items k.tables.store (vec_capacity k.tables.walks) (vec_capacity k.tables.batch) k.counts k.calls };
+    ghost invariant = { λ k. IsKept k.tables.config k.tables.tips.items k.tables.store (vec_capacity k.tables.tips) (vec_capacity k.tables.walks) (vec_capacity k.tables.batch) (vec_capacity k.ended) k.counts k.calls };
 }
 
 impl ReceiverState {
@@ -82,7 +83,9 @@ impl ReceiverState {
         requires ingests { 1 ≤ ingests }
         ensures { IfOk result (λ k. k ≡ opened (record { setup = setup; lag = lag; capacity = capacity; quota = quota; ingests = ingests }) k.reserved) }
     {
-        let ended = vec![in alloc; false; ingests as usize]?;
+        // Room for any number of ingests, since it may be limited to a greater one too.
+        let mut ended = Vec::with_capacity(alloc, 255)?;
+        unset(&mut ended, ingests);
         let config = Config {
             setup,
             lag,
@@ -186,6 +189,22 @@ impl ReceiverState {
         self.ended.truncate(ingests as usize);
     }
 
+    /// Begins anew with another setup, as if it had been opened with it and the same lag, capacity, quota and ingests. It
+    /// tells how many of the packets that were held weren't taken. It takes no memory, and goes over those packets.
+    pub fn reopen(&mut self, setup: Setup) -> u32
+        ensures dropped { result ≡ count_by is_untaken self.old.held }
+        ensures opened { self.new ≡ opened (record self.old.config { setup = setup }) self.old.reserved }
+    {
+        let chains = setup.count();
+        self.tables.config.setup = setup;
+        begin_tips(&mut self.tables.tips, &self.tables.config);
+        let dropped = self.tables.store.clear(chains);
+        unset(&mut self.ended, self.tables.config.ingests);
+        self.counts = NOTHING;
+        self.calls = 0;
+        dropped
+    }
+
     /// Whether an ingest has ended. One at or above the number of ingests hasn't.
     pub fn has_ended(&self, ingest: u8) -> bool
         ensures { result ≡ get_or self.now.ended ingest false }
@@ -205,7 +224,8 @@ impl ReceiverState {
 
     /// The counts of what happened.
     pub fn report(&self) -> Report
-        ensures { result ≡ self.now.counts }
+        ensures value { result ≡ self.now.counts }
+        ensures few { CountsWithin self.now.calls result }
     {
         self.counts
     }

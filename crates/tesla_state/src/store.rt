@@ -1,12 +1,12 @@
 //! The packets that are held, each in its place, and those that wait to be taken.
 
-ghost use Rattle.std.specs.Prelude.{◌≡◌, ◌+◌, ◌<◌, ◌≤◌, ◌∷◌, ◌++◌, [], true, false, not, IfOk, length, map, filter, find, slice_get, option_map, is_some, Some, All, ℕ};
+ghost use Rattle.std.specs.Prelude.{◌≡◌, ◌+◌, ◌<◌, ◌≤◌, ◌∷◌, ◌++◌, [], true, false, not, IfOk, length, map, filter, find, slice_get, option_map, is_some, Some, All, ℕ, count_by};
 ghost use Rattle.std.specs.List.{list_any};
 ghost use Rattle.tesla_fitting.specs.Rows.{tag_in};
 ghost use Rattle.tesla_base.specs.Members.{Distinct};
-ghost use Rattle.tesla_state.specs.Stored.{Placed, stands_at, rests_at, waits, is_proved_by, with_released, without, slot_of, is_of, is_unreleased_at, is_unreleased_of, first_slot, next_slot, next_unreleased};
+ghost use Rattle.tesla_state.specs.Stored.{Placed, holding_at, stands_at, rests_at, waits, is_proved_by, with_released, without, slot_of, is_of, is_unreleased_at, is_unreleased_of, first_slot, next_slot, next_unreleased};
 ghost use Rattle.tesla_walks.specs.ItemShown.{holding_in, IsItem};
-ghost use Rattle.tesla_state.specs.Steps.{in_interval, is_named_so};
+ghost use Rattle.tesla_state.specs.Steps.{in_interval, is_named_so, is_untaken};
 
 use std::alloc::Global;
 use std::marker::Model;
@@ -55,6 +55,18 @@ impl Store {
             queue: Queue::open(alloc, capacity)?,
             chains,
         })
+    }
+
+    /// Holds no packet any more and lets none wait, counts from 0 again, and is then for packets with so many tags. It tells
+    /// how many of the packets that were held weren't taken. It takes no memory.
+    pub fn clear(&mut self, chains: u8) -> u32
+        ensures dropped { result ≡ count_by is_untaken (map holding_at self.old.held) }
+        ensures cleared { self.new ≡ record self.old { chains = chains; held = []; waiting = []; given = 0 } }
+    {
+        let dropped = self.buffer.clear();
+        self.queue.clear();
+        self.chains = chains;
+        dropped
     }
 
     /// How many packets are held.

@@ -4,7 +4,7 @@ use Rattle.std.specs.Prelude.{if◌then◌else◌, bytes_eq}
 use Rattle.std.proofs.lemmas.Bool.{eqb-true, eq-eqb}
 use Rattle.std.proofs.lemmas.Slice.Eq.{bytes_eq-Decides}
 use Rattle.tesla_records.specs.Grammar.{Whole, ParsedHead, AwaitsHead, NoHead}
-use Rattle.tesla_receiver.specs.declared.history.Entry.{Entry}
+use Rattle.tesla_receiver.specs.Entries.{Entry}
 use Rattle.tesla_trace.specs.Parsing.{Read, entry_part, parse_of, parse_entry, head_behind}
 use Rattle.tesla_trace.proofs.TraceIs.{entry_some}
 

@@ -6,7 +6,7 @@ use Rattle.tesla_base.specs.declared.release.Head.{Head}
 use Rattle.tesla_capture.specs.Release.{head_text}
 use Rattle.tesla_fitting.specs.declared.verdict.Verdict.{Verdict}
 use Rattle.tesla_fitting.specs.declared.verdict.Verdict.TheVariants as verdicts
-use Rattle.tesla_receiver.specs.declared.history.Arrival.{Arrival}
+use Rattle.tesla_receiver.specs.Entries.{Arrival}
 use Rattle.tesla_receiver.specs.declared.history.Entry.TheVariants.{Arrived, Taken}
 use Rattle.tesla_state.specs.Replies.{reply_shown}
 use Rattle.tesla_state.specs.declared.replies.Take.{Take}

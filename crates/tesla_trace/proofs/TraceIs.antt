@@ -4,7 +4,7 @@ use Rattle.std.specs.Prelude.{codes}
 use Rattle.std.proofs.lemmas.List.{length-append, take_at}
 use Rattle.tesla_base.specs.Prefix.{AreBytes}
 use Rattle.tesla_records.specs.Grammar.{Awaits, Whole, Bad, ParsedHead, Grammar, IsGrammar}
-use Rattle.tesla_receiver.specs.declared.history.Entry.{Entry}
+use Rattle.tesla_receiver.specs.Entries.{Entry}
 use Rattle.tesla_trace.specs.declared.kind.EntryFault.{EntryFault}
 use Rattle.tesla_trace.specs.Parsing.{Part, Short, Wrong, Read, byte_part, entry_part, parse_of, parse_entry, parse_ingests, parse_head, parse_first, parse_tail}
 use Rattle.tesla_trace.specs.Grammar.{IsTraceEntry, tail, trace}

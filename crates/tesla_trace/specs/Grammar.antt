@@ -4,8 +4,7 @@ use Rattle.tesla_base.specs.Prefix.{AreBytes}
 use Rattle.tesla_base.specs.declared.release.Head.{Head}
 use Rattle.tesla_fitting.specs.declared.verdict.Verdict.{Verdict}
 use Rattle.tesla_fitting.specs.declared.verdict.Verdict.TheVariants as verdicts
-use Rattle.tesla_receiver.specs.declared.history.Arrival.{Arrival}
-use Rattle.tesla_receiver.specs.declared.history.Entry.{Entry}
+use Rattle.tesla_receiver.specs.Entries.{Arrival, Entry}
 use Rattle.tesla_receiver.specs.declared.history.Entry.TheVariants.{Arrived, Taken, Ended}
 use Rattle.tesla_records.specs.Grammar.{Grammar, IsFile}
 use Rattle.tesla_state.specs.declared.replies.Reply.{Reply}

@@ -4,7 +4,7 @@ use Rattle.std.specs.Int.{Width, w16, w32, w64}
 use Rattle.tesla_base.specs.Prefix.{parse_bytes, parse_number}
 use Rattle.tesla_fitting.specs.declared.verdict.Verdict.{Verdict}
 use Rattle.tesla_fitting.specs.declared.verdict.Verdict.TheVariants as verdicts
-use Rattle.tesla_receiver.specs.declared.history.Entry.{Entry}
+use Rattle.tesla_receiver.specs.Entries.{Entry}
 use Rattle.tesla_receiver.specs.declared.history.Entry.TheVariants.{Arrived, Taken, Ended}
 use Rattle.tesla_records.specs.Grammar.{Parsed, Awaits, Whole, Bad, ParsedHead, AwaitsHead, HeadIs, NoHead}
 use Rattle.tesla_state.specs.declared.replies.Reply.{Reply}

@@ -1,7 +1,7 @@
 //! What the bytes of a trace that were read tell, whatever follows them.
 
 ghost use Rattle.std.specs.Prelude.{◌≡◌, ◌≤◌, ℕ, List, [], length, true, false};
-ghost use Rattle.tesla_receiver.specs.declared.history.Entry.{Entry};
+ghost use Rattle.tesla_receiver.specs.Entries.{Entry};
 ghost use Rattle.tesla_records.specs.Grammar.{Whole, ParsedHead, AwaitsHead, NoHead};
 ghost use Rattle.tesla_records.specs.Judged.{Judges, JudgesHead, BeginsWhole};
 ghost use Rattle.tesla_trace.specs.Entries.{IsEntry, entry_in};

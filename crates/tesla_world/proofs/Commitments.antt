@@ -17,8 +17,7 @@ use Rattle.tesla_prf.proofs.Walks.{walk_on}
 use Rattle.tesla_receiver.specs.Arrivals.{FreshAreNew, NewAreTaken}
 use Rattle.tesla_receiver.specs.History.{IsLegal, arrivals_in}
 use Rattle.tesla_receiver.specs.Keys.{fresh_keys, keys_taken, newest}
-use Rattle.tesla_receiver.specs.declared.history.Arrival.{Arrival}
-use Rattle.tesla_receiver.specs.declared.history.Entry.{Entry}
+use Rattle.tesla_receiver.specs.Entries.{Arrival, Entry}
 use Rattle.tesla_world.specs.Laws.{CommitmentLaw, IsCarried, IsOnWalk, NoneCollide}
 use Rattle.tesla_world.proofs.Newest.{contained, newest_reaches, take_got}
 

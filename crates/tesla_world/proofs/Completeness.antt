@@ -18,8 +18,7 @@ use Rattle.tesla_receiver.specs.Arrivals.{KeptAreSafe, NewAreTaken, NewestRises,
 use Rattle.tesla_receiver.specs.History.{IsLegal, arrivals_in}
 use Rattle.tesla_receiver.specs.Keys.{new_keys, newest}
 use Rattle.tesla_receiver.specs.Packets.{packet_of, is_proof, proves, tag_by, verifies, verifies_row}
-use Rattle.tesla_receiver.specs.declared.history.Arrival.{Arrival}
-use Rattle.tesla_receiver.specs.declared.history.Entry.{Entry}
+use Rattle.tesla_receiver.specs.Entries.{Arrival, Entry}
 use Rattle.tesla_receiver.specs.declared.packet.Packet.{Packet}
 use Rattle.tesla_sender.specs.Made.{key_of}
 use Rattle.tesla_world.specs.Laws.{HasSendersTag, HonestCompleteness, IsHonest, IsProvedAt, IsReached, seed_in, senders_key}

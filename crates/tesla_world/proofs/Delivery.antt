@@ -16,8 +16,7 @@ use Rattle.tesla_receiver.specs.Arrivals.{KeptAreSafe, NewAreTaken, NewestRises,
 use Rattle.tesla_receiver.specs.History.{arrivals_in}
 use Rattle.tesla_receiver.specs.Keys.{newest}
 use Rattle.tesla_receiver.specs.Packets.{released}
-use Rattle.tesla_receiver.specs.declared.history.Arrival.{Arrival}
-use Rattle.tesla_receiver.specs.declared.history.Entry.{Entry}
+use Rattle.tesla_receiver.specs.Entries.{Arrival, Entry}
 use Rattle.tesla_sender.specs.Made.{Call, Chain, Disclose, Message, Stream, any_due, chains_from, chains_of, disclosed, disclosed_after, disclosure_frame, frame_in, frame_made, framed, interval_at, latest_of, made_disclosure, made_message, message_frame, name_of, row_of}
 use Rattle.tesla_sender.specs.declared.refusal.DiscloseRefusal.{DiscloseRefusal}
 use Rattle.tesla_sender.specs.declared.refusal.SendRefusal.{SendRefusal}

@@ -18,7 +18,7 @@ use Rattle.tesla_receiver.specs.Answer.{is_bad, late_arrival, safe_chains, verdi
 use Rattle.tesla_receiver.specs.Held.{held_of}
 use Rattle.tesla_receiver.specs.History.{arrivals_in}
 use Rattle.tesla_receiver.specs.Packets.{released}
-use Rattle.tesla_receiver.specs.declared.history.Arrival.{Arrival}
+use Rattle.tesla_receiver.specs.Entries.{Arrival}
 use Rattle.tesla_receiver.proofs.Arrivals.{HasVerdict, verdict_at}
 use Rattle.tesla_sender.specs.Made.{interval_at}
 use Rattle.tesla_state.specs.Releases.{has_name}

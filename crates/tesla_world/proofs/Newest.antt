@@ -13,7 +13,7 @@ use Rattle.tesla_fitting.specs.Rows.{is_of}
 use Rattle.tesla_fitting.specs.declared.config.Config.{Config}
 use Rattle.tesla_receiver.specs.Arrivals.{NewestRises}
 use Rattle.tesla_receiver.specs.Keys.{greatest, keys_taken, newest}
-use Rattle.tesla_receiver.specs.declared.history.Arrival.{Arrival}
+use Rattle.tesla_receiver.specs.Entries.{Arrival}
 use Rattle.tesla_world.specs.Laws.{IsReached}
 
 -- one element more

@@ -18,8 +18,7 @@ use Rattle.tesla_frame.specs.Reading.{frame_of}
 use Rattle.tesla_frame.specs.declared.row.KeyRow.{KeyRow}
 use Rattle.tesla_receiver.specs.Arrivals.{KeptAreSafe}
 use Rattle.tesla_receiver.specs.History.{arrivals_in}
-use Rattle.tesla_receiver.specs.declared.history.Arrival.{Arrival}
-use Rattle.tesla_receiver.specs.declared.history.Entry.{Entry}
+use Rattle.tesla_receiver.specs.Entries.{Arrival, Entry}
 use Rattle.tesla_fitting.specs.Rows.{keys_of}
 use Rattle.tesla_sender.specs.Made.{Call, interval_at}
 use Rattle.tesla_world.specs.World.{Moment, Sent, Received, Dated, Joined, arrival_at, received_in, dated_of}

@@ -10,7 +10,7 @@ use Rattle.tesla_commit.specs.Parts.{Parts}
 use Rattle.tesla_frame.specs.Frame.{Frame, IsFrame}
 use Rattle.tesla_receiver.specs.History.{Arrives, Event, IsLegal, arrival_in, arrivals_in, entry_of}
 use Rattle.tesla_receiver.specs.Stands.{Stands}
-use Rattle.tesla_receiver.specs.declared.history.Entry.{Entry}
+use Rattle.tesla_receiver.specs.Entries.{Entry}
 use Rattle.tesla_receiver.specs.declared.history.Entry.TheVariants.{Arrived}
 use Rattle.tesla_sender.specs.Made.{Call, Disclose, Message, Stream, frame_in, made_disclosure, made_message, reading_of}
 use Rattle.tesla_sender.specs.Stands as sending

@@ -4,7 +4,7 @@ use Rattle.tesla_fitting.specs.declared.verdict.Verdict.{Verdict}
 use Rattle.tesla_frame.specs.Frame.{Frame}
 use Rattle.tesla_receiver.specs.History.{Arrives, Event, entry_of}
 use Rattle.tesla_receiver.specs.Stands.{Stands}
-use Rattle.tesla_receiver.specs.declared.history.Entry.{Entry}
+use Rattle.tesla_receiver.specs.Entries.{Entry}
 use Rattle.tesla_receiver.specs.declared.history.Entry.TheVariants.{Arrived}
 use Rattle.tesla_sender.specs.Made.{Call, reading_of}
 use Rattle.tesla_sender.specs.Stands as sending

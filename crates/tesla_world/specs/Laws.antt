@@ -14,8 +14,7 @@ use Rattle.tesla_prf.specs.Keys.{next_of, tag_of, walk}
 use Rattle.tesla_receiver.specs.History.{IsLegal, arrivals_in}
 use Rattle.tesla_receiver.specs.Keys.{is_good, keys_in, keys_taken, new_keys, newest}
 use Rattle.tesla_receiver.specs.Packets.{packet_of, proves, released}
-use Rattle.tesla_receiver.specs.declared.history.Arrival.{Arrival}
-use Rattle.tesla_receiver.specs.declared.history.Entry.{Entry}
+use Rattle.tesla_receiver.specs.Entries.{Arrival, Entry}
 use Rattle.tesla_receiver.specs.declared.packet.Packet.{Packet}
 use Rattle.tesla_sender.specs.Made.{Call, key_of}
 use Rattle.tesla_state.specs.Releases.{has_name}

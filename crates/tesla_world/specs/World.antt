@@ -4,8 +4,7 @@ use Rattle.tesla_base.specs.declared.names.Key.{Key}
 use Rattle.tesla_fitting.specs.declared.config.Config.{Config}
 use Rattle.tesla_frame.specs.Frame.{Frame, IsFrame}
 use Rattle.tesla_receiver.specs.History.{IsLegal, arrivals_in}
-use Rattle.tesla_receiver.specs.declared.history.Arrival.{Arrival}
-use Rattle.tesla_receiver.specs.declared.history.Entry.{Entry}
+use Rattle.tesla_receiver.specs.Entries.{Arrival, Entry}
 use Rattle.tesla_sender.specs.Made.{Call, Stream, frame_made, reading_of}
 
 -- a frame was sent at this reading of the sender's clock, or a datagram came at this reading of the receiver's

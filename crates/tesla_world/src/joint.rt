@@ -3,7 +3,7 @@
 ghost use Rattle.std.specs.Prelude.{◌≡◌, ◌+◌, ◌^◌, ◌<◌, ◌≤◌, ◌++◌, ◌∷◌, [], List, OnErr, length, slice_get};
 ghost use Rattle.tesla_receiver.specs.History.{Arrives, Ends, Takes, entry_of, reply_to};
 ghost use Rattle.tesla_receiver.specs.Stands.{Stands};
-ghost use Rattle.tesla_receiver.specs.declared.history.Entry.{Entry};
+ghost use Rattle.tesla_receiver.specs.Entries.{Entry};
 ghost use Rattle.tesla_sender.specs.Made.{Call, Disclose, Message, made_disclosure, made_message};
 ghost use Rattle.tesla_sender.specs.Stands as sending;
 ghost use Rattle.tesla_state.specs.Replies.{KeepsBehind, reply_shown};

@@ -2,7 +2,7 @@
 use Rattle.std.proofs.Common.{◌≡◌, ◌∙◌, ℕ, false, List, [], ◌∷◌, ◌++◌, flat_map, refl, sym, ap, subst, append-nil}
 use Rattle.std.proofs.lemmas.List.Concat.{flat_map-append}
 use Rattle.tesla_fitting.specs.declared.config.Config.{Config}
-use Rattle.tesla_receiver.specs.declared.history.Entry.{Entry}
+use Rattle.tesla_receiver.specs.Entries.{Entry}
 use Rattle.tesla_convert.specs.Meaning.{SaysSame}
 use Rattle.tesla_trace.specs.Trace.{entry_text, trace_head}
 use Rattle.tesla_run_replay.specs.Playing.{meaning_by, history_report}

@@ -2,7 +2,7 @@
 
 ghost use Rattle.std.specs.Prelude.{◌≡◌, ◌≤◌, ℕ, List, Option, Some, true};
 ghost use Rattle.tesla_desk.specs.Faults.{HasCause};
-ghost use Rattle.tesla_receiver.specs.declared.history.Entry.{Entry};
+ghost use Rattle.tesla_receiver.specs.Entries.{Entry};
 ghost use Rattle.tesla_records.specs.Grammar.{Grammar, IsGrammar, limit};
 ghost use Rattle.tesla_records.specs.Found.{AwaitsAt};
 ghost use Rattle.tesla_records.specs.Records.{refusal_by};

@@ -1,25 +1,18 @@
 -- What the command info does.
-use Rattle.std.specs.Prelude.{◌≡◌, ◌⊎◌, ℕ, ◌+◌, ◌≤◌, Option, List, [], ◌∷◌, codes}
+use Rattle.std.specs.Prelude.{◌≡◌, ◌⊎◌, ℕ, ◌≤◌, Option, None, List, [], ◌∷◌}
+use Rattle.tesla_commit.specs.Equal.{first_equal}
 use Rattle.tesla_commit.specs.Parts.{Parts}
 use Rattle.tesla_desk.specs.Live.{Live}
 use Rattle.tesla_desk.specs.Outside.{Page}
 use Rattle.tesla_front.specs.OutcomeView.{OutcomeView, Done, Refused, Failed}
 use Rattle.tesla_front.specs.Command.{Command}
 use Rattle.tesla_front.specs.Openings.{File}
-use Rattle.tesla_front.specs.Refusal.{refused_line}
 use Rattle.tesla_front.specs.Setup.{IsNoSetup, IsSetupIn}
 use Rattle.tesla_front.specs.declared.fault.Fault.TheVariants as faults
 use Rattle.tesla_run_info.specs.info.Arguments.{InfoArguments, IsInfoForm, files_of_info}
-use Rattle.tesla_run_info.specs.info.Equal.{AreApart, AreApartBefore, EqualsBefore, first_row}
 use Rattle.tesla_run_info.specs.info.Left.{IsFirstReading, with_clock}
 use Rattle.tesla_run_info.specs.info.Lines.{IsInfo}
-
--- the first chain whose commitment a chain before has is told, with its line
-pub record RefusesEqual (setup : Parts) (outcome : OutcomeView) : Type 0 where
-  pub chain : ℕ
-  pub equals : EqualsBefore setup.rows chain
-  pub before : AreApartBefore setup.rows chain
-  pub told : outcome ≡ Refused 2 (refused_line (codes "setup") (first_row setup.version + chain) (codes "EqualCommitments"))
+use Rattle.tesla_run_info.specs.info.Rows.{RefusesEqual}
 
 -- the lines of a setup were told at the first reading of the next clock
 pub record TellsAt (before now : Live) (rate : Option ℕ) (setup : Parts) (lines : List ℕ) : Type 0 where
@@ -30,7 +23,7 @@ pub record TellsAt (before now : Live) (rate : Option ℕ) (setup : Parts) (line
 
 -- what telling a setup comes to: its lines, where no two commitments are equal; else no clock was made, nor where there was no memory
 abbrev pub TellsInfo : Live → Live → Option ℕ → Parts → OutcomeView → Type 0
-TellsInfo before now rate setup (Done lines) = AreApart setup.rows × TellsAt before now rate setup lines
+TellsInfo before now rate setup (Done lines) = (first_equal setup.rows ≡ None) × TellsAt before now rate setup lines
 TellsInfo before now rate setup (Refused status line) = RefusesEqual setup (Refused status line) × (now ≡ before)
 TellsInfo before now rate setup (Failed fault) = (fault ≡ faults.NoMemory) × (now ≡ before)
 TellsInfo before now rate setup _ = ⊥

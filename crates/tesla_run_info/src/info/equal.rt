@@ -1,35 +1,35 @@
-//! Chains of a setup whose commitments are equal.
+//! Setups in which two chains have the same commitment.
 
-ghost use Rattle.std.specs.Prelude.{◌≡◌, ◌<◌, None, IfSome, true, false, length};
-ghost use Rattle.tesla_run_info.specs.info.Equal.{AreApart, AreApartBefore, EqualsBefore};
+ghost use Rattle.std.specs.Prelude.{◌≡◌, IfErr, IfOk, None};
+ghost use Rattle.tesla_commit.specs.Equal.{first_equal};
+ghost use Rattle.tesla_front.specs.OutcomeView.{stop_view};
+ghost use Rattle.tesla_run_info.specs.info.Rows.{RefusesEqual, first_row};
 
-use tesla_commit::Setup;
+use tesla_base::Version;
+use tesla_commit::{Setup, first_equal};
+use tesla_front::{Stop, refused};
 
-// Whether a chain before this one has the same commitment.
-fn equals_before(setup: &Setup, chain: u8) -> bool
-    requires { chain < length setup.now.rows }
-    ensures yes { result ≡ true → EqualsBefore setup.now.rows chain }
-    ensures no { result ≡ false → EqualsBefore setup.now.rows chain → ⊥ }
+/// Whether no two commitments of a setup are equal. `Refused` with status 2 and the line of the first chain whose
+/// commitment a chain before has, `EqualCommitments`.
+pub fn unequal(setup: &Setup) -> Result<(), Stop>
+    ensures none { IfOk result (λ _. first_equal setup.now.rows ≡ None) }
+    ensures refused { IfErr result (λ stop. RefusesEqual setup.now (stop_view stop)) }
 {
-    let row = setup.row(chain);
-    for other in 0..chain {
-        let earlier = setup.row(other);
-        if earlier.key.0.as_slice() == row.key.0.as_slice() {
-            return true;
+    match first_equal(setup) {
+        None => Ok(()),
+        Some(chain) => {
+            let line = first_row(setup.format()) + u64::from(chain);
+            Err(Stop::Refused(refused(2, "setup", line, "EqualCommitments")))
         }
     }
-    false
 }
 
-/// The first chain whose commitment a chain before has.
-pub fn first_equal(setup: &Setup) -> Option<u8>
-    ensures found { IfSome result (λ chain. EqualsBefore setup.now.rows chain × AreApartBefore setup.now.rows chain) }
-    ensures none { result ≡ None → AreApart setup.now.rows }
+// The line of a setup's text that has its first chain.
+fn first_row(version: Version) -> u64
+    ensures { result ≡ first_row version }
 {
-    for chain in 0..setup.count() {
-        if equals_before(setup, chain) {
-            return Some(chain);
-        }
+    match version {
+        Version::One => 6,
+        Version::Two => 7,
     }
-    None
 }

@@ -5,17 +5,15 @@ ghost use Rattle.tesla_front.specs.OutcomeView.{result_view, outcome_view};
 ghost use Rattle.tesla_front.specs.Command.{Performs, RunsAs};
 ghost use Rattle.tesla_front.specs.Openings.{AreFiles};
 ghost use Rattle.tesla_run_info.specs.info.Arguments.{arguments_of, files_of_info};
-ghost use Rattle.tesla_run_info.specs.info.Equal.{first_row};
 ghost use Rattle.tesla_run_info.specs.info.Telling.{TellsInfo, TouchesClock, info};
 
-use crate::info::equal::first_equal;
+use crate::info::equal::unequal;
 use crate::info::form::{Arguments, arguments_in};
 use crate::info::lines::info_of;
 use std::alloc::Global;
-use tesla_base::Version;
 use tesla_commit::Setup;
 use tesla_desk::Desk;
-use tesla_front::{Fault, Lines, Outcome, Stop, outcome_of, refused, setup_under};
+use tesla_front::{Fault, Lines, Outcome, Stop, outcome_of, setup_under};
 
 /// Runs the words as those of `info`: reads SETUP, and tells what it says and, at the first reading of the next clock,
 /// how much of its stream is left.
@@ -55,22 +53,9 @@ fn tell<D: Desk>(
     ensures live { TouchesClock (D.told desk.old).live (D.told desk.new).live }
     ensures desk { D.told desk.new ≡ record (D.told desk.old) { live = (D.told desk.new).live } }
 {
-    if let Some(chain) = first_equal(setup) {
-        let line = first_row(setup.format()) + u64::from(chain);
-        return Err(Stop::Refused(refused(2, "setup", line, "EqualCommitments")));
-    }
+    unequal(setup)?;
     match info_of(alloc, setup, rate, desk) {
         Ok(lines) => Ok(lines),
         Err(_) => Err(Stop::Failed(Fault::NoMemory)),
-    }
-}
-
-// The line of a setup's text that has its first chain.
-fn first_row(version: Version) -> u64
-    ensures { result ≡ first_row version }
-{
-    match version {
-        Version::One => 6,
-        Version::Two => 7,
     }
 }

@@ -1,5 +1,5 @@
 use Rattle.std.proofs.Common.{◌≡◌, ◌+◌, List, replicate}
-use Rattle.tesla_receiver.specs.declared.history.Entry.{Entry}
+use Rattle.tesla_receiver.specs.Entries.{Entry}
 use Rattle.tesla_receiver.specs.History.{Takes}
 use Rattle.tesla_receiver.specs.Events.{after_events}
 use Rattle.tesla_receiver.specs.Stands.{Stands}

@@ -1,7 +1,7 @@
 use Rattle.std.proofs.Common.{◌≡◌, ◌++◌, ◌∷◌, [], ap, ◌∙◌, subst, Option}
 use Rattle.tesla_frame.specs.Frame.{Frame}
 use Rattle.tesla_receiver.specs.History.{Arrives, entry_of}
-use Rattle.tesla_receiver.specs.declared.history.Arrival.{Arrival}
+use Rattle.tesla_receiver.specs.Entries.{Arrival}
 use Rattle.tesla_early.specs.Early.{is_early}
 use Rattle.tesla_early.specs.Kept.{candidate_in, is_promised_by, kept_after}
 use Rattle.tesla_early.specs.Stands.{EarlyStands, EarlyState}
@@ -24,7 +24,7 @@ returns-clause-stands g c h =
     let i = c.self.inside in
     let verdict = c.arrive_read-verdict.result in
     let before : EarlyState = record { receiver = i.receiver; promises = i.promises } in
-    let after : EarlyState = record { receiver = c.arrive_read-verdict.new.self; promises = c.accept.new.promises } in
+    let after : EarlyState = record { receiver = c.arrive_read-verdict.new.self; promises = c.accept.new.self } in
     subst (λ (s : EarlyState). EarlyStands s h → EarlyStands after (h ++ entry_of s.receiver.config h (Arrives c.args.ingest c.args.reading c.args.bytes.now) ∷ [])) c.self.view_is
     (λ st.
     arrived_stands before after h c.args.ingest c.args.reading c.args.bytes.now verdict st

@@ -7,7 +7,7 @@ use Rattle.tesla_frame.specs.Reading.{frame_of}
 use Rattle.tesla_frame.specs.Shown.{shown}
 use Rattle.tesla_receiver.specs.History.{Event, Arrives, entry_of}
 use Rattle.tesla_receiver.specs.Events.{after_events}
-use Rattle.tesla_receiver.specs.declared.history.Arrival.{Arrival}
+use Rattle.tesla_receiver.specs.Entries.{Arrival}
 use Rattle.tesla_early.specs.Early.{message_in}
 use Rattle.tesla_run_replay.specs.Playing.{event_of}
 use Rattle.tesla_run_early.specs.Playing.{early_rule, promises}

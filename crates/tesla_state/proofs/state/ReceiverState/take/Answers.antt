@@ -24,7 +24,7 @@ pub invariant_of-self-2 : goal.invariant_of-self-2
 invariant_of-self-2 c =
     let i = c.self.inside in
     let fits : i.calls + 1 < 2 ^ 64 = subst (λ (s : State). s.calls + 1 < 2 ^ 64) (sym c.self.view_is) c.requires in
-    kept_taken i.tables.config i.tables.tips.items i.tables.store c.take-head.new.self (vec_capacity i.tables.walks) (vec_capacity i.tables.batch) i.counts i.calls c.in-Some.head c.args.into.now c.take-head.new.into c.self.invariant fits
+    kept_taken i.tables.config i.tables.tips.items i.tables.store c.take-head.new.self (vec_capacity i.tables.tips) (vec_capacity i.tables.walks) (vec_capacity i.tables.batch) (vec_capacity i.ended) i.counts i.calls c.in-Some.head c.args.into.now c.take-head.new.into c.self.invariant fits
     c.take-head.ensures.capacity c.take-head.ensures.chains (subst (λ (ts : List Tip). IsGiven i.tables.config ts i.counts.given i.tables.store c.take-head.new.self c.in-Some.head c.args.into.now c.take-head.new.into) c.as_slice.ensures.value c.in-Some.ensures.given)
 
 pub returns-clause-answer : goal.returns-clause-answer

@@ -1,6 +1,6 @@
 use Rattle.std.proofs.Common.{◌≡◌, List, [], ◌∷◌, ◌++◌, length, take, ap, subst, ◌∙◌}
 use Rattle.std.specs.Prelude.{Err, IsOk, is_ok}
-use Rattle.tesla_receiver.specs.declared.history.Entry.{Entry}
+use Rattle.tesla_receiver.specs.Entries.{Entry}
 use Rattle.tesla_sender.specs.Made.{Call, Message, made_message}
 use Rattle.tesla_world.specs.Joint.{JointState, StandsFor}
 use Rattle.tesla_world.specs.World.{Moment}

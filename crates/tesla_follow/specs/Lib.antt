@@ -1,0 +1,9 @@
+pub mod Followed
+pub mod History
+pub mod Counted
+pub mod Stands
+pub mod Kept
+pub mod Queued
+pub mod Replies
+pub mod Giving
+pub mod Laws
