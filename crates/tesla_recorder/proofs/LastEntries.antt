@@ -1,8 +1,14 @@
 -- The last entries of a history with one entry more.
-use Rattle.std.proofs.Common.{◌≡◌, ℕ, ◌-◌, List, [], ◌∷◌, ◌++◌, length, drop, map, flat_map, refl, sym, ap, subst, ◌∙◌, length-append, arith}
+use Rattle.std.proofs.Common.{◌≡◌, ℕ, ◌-◌, ◌≤◌, List, [], ◌∷◌, ◌++◌, length, drop, map, flat_map, refl, sym, ap, subst, ◌∙◌, length-append, arith}
 use Rattle.std.proofs.lemmas.List.{drop-append-le, drop-drop, drop-map, length-drop, length-map, map_push}
 use Rattle.circular_buffer.specs.Buffer.{keep_last}
-use Rattle.tesla_receiver.specs.declared.history.Entry.{Entry}
+use Rattle.tesla_receiver.specs.Entries.{Entry}
+use Rattle.tesla_receiver.specs.declared.history.Entry.TheVariants.{Taken}
+use Rattle.tesla_state.specs.Replies.{KeepsBehind}
+use Rattle.tesla_state.specs.declared.replies.Reply.{Reply}
+use Rattle.tesla_state.specs.declared.replies.Take.{Take}
+use Rattle.tesla_state.specs.declared.replies.Take.TheVariants.{Given, Empty, Over}
+use Rattle.tesla_trace.specs.Entries.{FitsReply}
 use Rattle.tesla_trace.specs.Trace.{entry_text}
 use Rattle.tesla_recorder.specs.Recorded.{RecordedState, RecordedStands, Tail, last_entries, with_text}
 
@@ -34,6 +40,20 @@ stands_more stands state before after tail now history entry same stood stands_n
     let old = subst (λ s. RecordedStands stands s history) (sym same) stood in
     subst (λ (t : Tail). RecordedStands stands (record { station = after; keep = t.keep; texts = t.texts; reserved = t.reserved }) (history ++ entry ∷ [])) (sym put)
     (record { stood = stands_now old.stood; last = texts_more tail.keep tail.texts history entry old.last; room = old.room })
+
+-- a take whose answer is shown so
+pub stands_shown : {V : Type 0} (stands : V → List Entry → Type 0) (state : RecordedState V) (before after : V) (tail now : Tail) (history : List Entry) (releaser : ℕ) (answer shown : Reply) → shown ≡ answer
+    → record { station = before; keep = tail.keep; texts = tail.texts; reserved = tail.reserved } ≡ state → RecordedStands stands state history
+    → (stands before history → stands after (history ++ Taken releaser shown ∷ [])) → now ≡ with_text tail (entry_text (Taken releaser answer))
+    → RecordedStands stands (record { station = after; keep = now.keep; texts = now.texts; reserved = now.reserved }) (history ++ Taken releaser shown ∷ [])
+stands_shown stands state before after tail now history releaser answer shown is same stood stands_now put =
+    stands_more stands state before after tail now history (Taken releaser shown) same stood stands_now (put ∙ ap (λ (reply : Reply). with_text tail (entry_text (Taken releaser reply))) (sym is))
+
+-- a packet that was given fits its buffer
+pub fits_kept : (answer : Take) (old new : List ℕ) → KeepsBehind answer old new → 1200 ≤ length new → FitsReply answer new
+fits_kept (Given head) old new keeps size = (let few = keeps.0 in omega (arith, few, size), keeps.0)
+fits_kept Empty old new keeps size = tt
+fits_kept Over old new keeps size = tt
 
 -- the texts of entries, one behind the other
 pub all_spelled : (entries : List Entry) → flat_map (λ text. text) (map entry_text entries) ≡ flat_map entry_text entries

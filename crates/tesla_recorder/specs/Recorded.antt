@@ -2,7 +2,7 @@
 use Rattle.std.specs.Prelude.{◌≡◌, ℕ, ◌-◌, ◌≤◌, ◌*◌, ◌+◌, List, [], ◌∷◌, ◌++◌, length, drop, take, map}
 use Rattle.std.specs.List.{All, sum}
 use Rattle.circular_buffer.specs.Buffer.{Buffer, keep_last}
-use Rattle.tesla_receiver.specs.declared.history.Entry.{Entry}
+use Rattle.tesla_receiver.specs.Entries.{Entry}
 use Rattle.tesla_trace.specs.Trace.{entry_text}
 
 -- the last entries of a history, at most so many

@@ -1,17 +1,17 @@
 //! A station with the last entries of its history.
 
 ghost use Rattle.std.specs.Prelude.{◌≡◌, ◌≤◌, ◌-◌, ◌++◌, [], List, length, flat_map, min, IfOk};
-ghost use Rattle.tesla_receiver.specs.declared.history.Entry.{Entry};
+ghost use Rattle.tesla_receiver.specs.Entries.{Entry};
 ghost use Rattle.tesla_trace.specs.Trace.{entry_text};
 ghost use Rattle.tesla_recorder.specs.Recorded.{RecordedStands, last_entries};
 
 use crate::tail::LastEntries;
 use std::alloc::Global;
 use std::marker::Model;
-use std::sync::ledger::Ledger;
-use tesla_base::{Chronicle, MOST_PAYLOAD, NoMemory, Steps};
-use tesla_receiver::{Config, Entry, Receiver, Report, Take, Verdict};
-use tesla_shared::Station;
+use tesla_base::{Chronicle, MOST_PAYLOAD, NoMemory};
+use tesla_capture::Gatherer;
+use tesla_receiver::{Config, Receiver, Reply, Report, Take, Verdict};
+use tesla_shared::{Gathered, Receiving, Station};
 
 /// A station, and the last entries of its history: each arrival with its verdict, each take with its answer, and each end.
 #[derive(Drop)]
@@ -37,10 +37,10 @@ impl<V> Model for Recorded<V> {
     ghost view = { λ r. record { station = r.station; keep = r.last.keep; texts = r.last.texts; reserved = r.last.reserved } };
 }
 
-impl<V: Station> Chronicle for Recorded<V> {
+impl<V: Receiving> Chronicle for Recorded<V> {
     ghost use Rattle.tesla_recorder.specs.Recorded.{RecordedStands};
 
-    type Entry = Entry;
+    type Entry = tesla_receiver::Entry;
 
     type Config = RecordedConfig<V::Config>;
 
@@ -49,7 +49,7 @@ impl<V: Station> Chronicle for Recorded<V> {
     ghost stands = { RecordedStands V.stands };
 }
 
-impl<V: Station> Recorded<V> {
+impl<V: Receiving> Recorded<V> {
     /// Records of this station, which has had no event, the last entries from now on: so many, from 1 to 4,096. All memory
     /// is taken here, 2,072 bytes for each entry. `NoMemory`: there wasn't enough.
     pub fn open(alloc: Global, station: V, keep: u32) -> Result<Recorded<V>, NoMemory>
@@ -89,19 +89,27 @@ impl<V: Station> Recorded<V> {
     }
 }
 
-impl<V: Station> Station for Recorded<V> {
-    ghost receiver = { λ config. V.receiver config.config };
+impl<V: Receiving> Station for Recorded<V> {
+    type Verdict = Verdict;
+
+    type Reply = Reply;
+
+    type Take = Take;
+
+    ghost ingests = { λ config. V.ingests config.config };
+
+    ghost is_legal = { λ config. V.is_legal config.config };
+
+    ghost shown = { V.shown };
+
+    ghost keeps_behind = { V.keeps_behind };
+
+    ghost yields = { V.yields };
 
     ghost legal = { λ recorded h stood. V.legal recorded.station h stood.stood };
 
-    fn arrive<L: Ledger>(
-        &mut self,
-        ingest: u8,
-        reading: u64,
-        bytes: &[u8],
-        steps: &mut Steps<L>,
-    ) -> Verdict {
-        let verdict = self.station.arrive(ingest, reading, bytes, steps);
+    fn arrive(&mut self, ingest: u8, reading: u64, bytes: &[u8]) -> Verdict {
+        let verdict = self.station.arrive(ingest, reading, bytes);
         self.last.put_arrival(ingest, reading, bytes, verdict);
         verdict
     }
@@ -110,6 +118,14 @@ impl<V: Station> Station for Recorded<V> {
         let reply = self.station.take(releaser, into);
         self.last.put_take(releaser, reply, into);
         reply
+    }
+
+    fn gather(take: Take, payload: &[u8; MOST_PAYLOAD], gatherer: &mut Gatherer) -> Gathered {
+        V::gather(take, payload, gatherer)
+    }
+
+    fn let_go(verdict: Verdict) {
+        V::let_go(verdict);
     }
 
     fn end(&mut self, ingest: u8) {
@@ -124,6 +140,20 @@ impl<V: Station> Station for Recorded<V> {
     fn calls(&self) -> u64 {
         self.station.calls()
     }
+}
+
+impl<V: Receiving> Receiving for Recorded<V> {
+    ghost receiver = { λ config. V.receiver config.config };
+
+    ghost ingests_are = { λ config. V.ingests_are config.config };
+
+    ghost legal_is = { λ config. V.legal_is config.config };
+
+    ghost shown_is = { V.shown_is };
+
+    ghost keeps_is = { V.keeps_is };
+
+    ghost yields_are = { V.yields_are };
 
     fn report(&self) -> Report {
         self.station.report()

@@ -13,7 +13,6 @@ use Rattle.tesla_front.specs.declared.fault.Fault.{Fault}
 use Rattle.tesla_front.specs.declared.fault.Fault.TheVariants as faults
 use Rattle.tesla_front.proofs.Openings.{opens_first}
 use Rattle.tesla_front.proofs.Reported.{rose_some}
-use Rattle.tesla_receiver.specs.declared.history.Entry.{Entry}
 use Rattle.tesla_session.specs.Wanted.{WantedSink, opening_for, sinks_wanted, wanted_for}
 use Rattle.tesla_session.proofs.Counted.{has_failed, refused_counts}
 use Rattle.tesla_session.proofs.Fresh.{refused_by}
@@ -108,23 +107,23 @@ tells_failed None count failed outcome cause told = tt
 tells_failed (Some bytes) count failed outcome cause told = tells_by count failed outcome bytes (nat_lt 0 count) refl cause told
 
 -- what the page of the output holds
-abbrev pub BehindHolds : (List Entry → Page → Type 0) → Option (List ℕ) → List Entry → Told → OutcomeView → Type 0
-BehindHolds Holding None history now outcome = Unit {0}
-BehindHolds Holding (Some output) history now outcome = Holding history (now.page output) × TellsFailed (now.page output) outcome
+abbrev pub BehindHolds : (Page → Type 0) → Option (List ℕ) → Told → OutcomeView → Type 0
+BehindHolds Holding None now outcome = Unit {0}
+BehindHolds Holding (Some output) now outcome = Holding (now.page output) × TellsFailed (now.page output) outcome
 
 -- what the end of the output leaves of the other files, and what is told of it
-pub record Ends (Holding : List Entry → Page → Type 0) (output : Option (List ℕ)) (links sinks : List (List ℕ)) (history : List Entry) (closed now : Told) (failed : Bool) (outcome : OutcomeView) : Type 0 where
+pub record Ends (Holding : Page → Type 0) (output : Option (List ℕ)) (links sinks : List (List ℕ)) (closed now : Told) (failed : Bool) (outcome : OutcomeView) : Type 0 where
   pub live : now.live ≡ closed.live
   pub sinks_same : files_told now (map opening_for (sinks_wanted 0 sinks)) ≡ files_told closed (map opening_for (sinks_wanted 0 sinks))
   pub own : HasCauses closed.faults now.faults ⊥ (failed ≡ true) ⊥
   pub own_failed : failed ≡ true → AnyFailed (with_behind (map opening_for (wanted_for links sinks)) output) now
   pub still_failed : AnyFailed (map opening_for (wanted_for links sinks)) closed → AnyFailed (with_behind (map opening_for (wanted_for links sinks)) output) now
   pub opens : (before : Told) → (let files = with_behind (map opening_for (wanted_for links sinks)) output in Opens files (length files) before closed → Opens files (length files) before now)
-  pub holds : BehindHolds Holding output history now outcome
+  pub holds : BehindHolds Holding output now outcome
 
-pub ends_behind : (Holding : List Entry → Page → Type 0) (output : Option (List ℕ)) (links sinks : List (List ℕ)) (history : List Entry) (closed now : Told) (failed : Bool) (outcome : OutcomeView)
-    → IsApart output sinks → EndsBehind Holding output history closed now failed → (failed ≡ true → (outcome ≡ Failed faults.Read) ⊎ (outcome ≡ Failed faults.Write)) → Ends Holding output links sinks history closed now failed outcome
-ends_behind Holding None links sinks history closed now failed outcome apart (same, none) told =
+pub ends_behind : (Holding : Page → Type 0) (output : Option (List ℕ)) (links sinks : List (List ℕ)) (closed now : Told) (failed : Bool) (outcome : OutcomeView)
+    → IsApart output sinks → EndsBehind Holding output closed now failed → (failed ≡ true → (outcome ≡ Failed faults.Read) ⊎ (outcome ≡ Failed faults.Write)) → Ends Holding output links sinks closed now failed outcome
+ends_behind Holding None links sinks closed now failed outcome apart (same, none) told =
     let files : List Opening = map opening_for (wanted_for links sinks) in
     let never : failed ≡ true → ⊥ = λ is. absurd (let clash : true ≡ false = sym is ∙ none in cc) in
     record {
@@ -140,7 +139,7 @@ ends_behind Holding None links sinks history closed now failed outcome apart (sa
       opens = λ before opens. subst (λ (t : Told). Opens files (length files) before t) (sym same) opens;
       holds = tt;
     }
-ends_behind Holding (Some output) links sinks history closed now failed outcome apart it told =
+ends_behind Holding (Some output) links sinks closed now failed outcome apart it told =
     let files : List Opening = map opening_for (wanted_for links sinks) in
     let behind : List Opening = OfSink output ∷ [] in
     record {
@@ -153,7 +152,7 @@ ends_behind Holding (Some output) links sinks history closed now failed outcome 
       opens = λ before opens. sink_after (files ++ behind) (length (files ++ behind)) output it.written it.faults before closed now opens
           (subst (λ (os : List Opening). IsAmong (OfSink output) os) (sym (take_all (length (files ++ behind)) (files ++ behind) (omega arith))) (among_back (OfSink output) files behind (inl refl))) it.closes;
       holds = (
-        subst (λ (page : Page). Holding history page) (sym it.closes.own) it.holds,
+        subst (λ (page : Page). Holding page) (sym it.closes.own) it.holds,
         subst (λ (page : Page). TellsFailed page outcome) (sym it.closes.own) (tells_failed it.written it.faults failed outcome it.cause told),
       );
     }

@@ -1,4 +1,5 @@
 pub mod Behind
+pub mod Complete
 pub mod Heard
 pub mod Held
 pub mod Histories

@@ -3,12 +3,9 @@
 ghost use Rattle.std.specs.Prelude.{◌≡◌, ◌||◌, Bool, not};
 ghost use Rattle.std.specs.Option.{option_map};
 ghost use Rattle.tesla_front.specs.OutcomeView.{result_view, stop_view};
-ghost use Rattle.tesla_run_replay.specs.ReportText.{report_text};
 ghost use Rattle.tesla_session.specs.Session.{outcome_by, stop_by};
 
 use tesla_front::{Fault, Lines, Stop};
-use tesla_receiver::Report;
-use tesla_run_replay::report_lines;
 
 /// Why the run came to no end, where the output was written or failed: a link that failed comes first, and a failed write before
 /// calls that were spent.
@@ -24,12 +21,12 @@ pub(crate) fn stop_with(stop: Option<Stop>, written: bool) -> Option<Stop>
     }
 }
 
-/// What workers that ended so come to, told the counts.
-pub(crate) fn ended(stop: Option<Stop>, report: &Report) -> Result<Lines, Stop>
-    ensures { result_view result ≡ outcome_by (option_map stop_view stop) (report_text report.now) }
+/// What workers that ended so come to, told the lines for the console.
+pub(crate) fn ended(stop: Option<Stop>, lines: Lines) -> Result<Lines, Stop>
+    ensures { result_view result ≡ outcome_by (option_map stop_view stop) lines.bytes }
 {
     match stop {
         Some(stop) => Err(stop),
-        None => Ok(report_lines(report)),
+        None => Ok(lines),
     }
 }

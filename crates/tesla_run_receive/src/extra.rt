@@ -14,11 +14,13 @@ ghost use Rattle.tesla_run_receive.specs.Running.{EndsBehind, OpensBehind, Refus
 
 use std::sync::Wait;
 use tesla_desk::Environment;
-use tesla_front::Fault;
+use tesla_front::{Fault, Lines};
+use tesla_run_replay::report_lines;
 use tesla_session::{Beside, Ended};
-use tesla_shared::Station;
+use tesla_shared::{Receiving, Station};
 
-/// What a command has beside the workers of a station: what runs at the same time, and what is written to one output more.
+/// What a command has beside the workers of a station: what runs at the same time, what is written to one output more, and what
+/// is told on the console.
 pub trait Extra<D: Environment, V: Station>: Drop {
     /// What runs beside the workers, with the output where there is one.
     type Begun: Beside + Send;
@@ -26,8 +28,11 @@ pub trait Extra<D: Environment, V: Station>: Drop {
     /// The name of the output.
     ghost output: { Self → Option (List ℕ) };
 
-    /// What the page of the output holds at the end, told the history.
-    ghost holds: { Self → List Entry → Page → Type 0 };
+    /// What the page of the output holds at the end, told the history that a station of this configuration had.
+    ghost holds: { Self → V.Config → List (Entry V.Verdict V.Reply) → Page → Type 0 };
+
+    /// The text for the console, told the history that a station of this configuration had.
+    ghost text: { V.Config → List (Entry V.Verdict V.Reply) → List ℕ };
 
     /// Its output may be written.
     ghost allowed: { Self → Type 0 };
@@ -45,10 +50,15 @@ pub trait Extra<D: Environment, V: Station>: Drop {
         ensures begun { IfOk result (λ it. (cfg : V.Config) → fits self cfg → is_begun self cfg it) }
         ensures refused { (fault : Fault) → result ≡ Err fault → RefusesBehind (output self) (D.told desk.old) (D.told desk.new) fault };
 
+    /// The lines for the console, when the workers have ended.
+    fn lines(station: &V) -> Lines
+        ensures { (h : List (Entry V.Verdict V.Reply)) → V.stands station.now h → result.bytes ≡ text (V.config station.now) h };
+
     /// Writes the rest of the output when the workers have ended, and closes it. False: it failed.
     fn end(begun: Self::Begun, station: V, desk: &mut D) -> bool
-        requires { (extra : Self) × (log : List (Call Entry)) × is_begun extra (V.config station) begun × V.stands station (entries log) × ArePermitted (IsOfWorker D.Time.read_for (V.receiver (V.config station)).ingests) log }
-        ensures { (extra : Self) (h : List Entry) → is_begun extra (V.config station) begun → V.stands station h → EndsBehind (holds extra) (output extra) h (D.told desk.old) (D.told desk.new) (not result) };
+        requires begun { (extra : Self) × is_begun extra (V.config station) begun }
+        requires stood { (log : List (Call (Entry V.Verdict V.Reply))) × V.stands station (entries log) × ArePermitted (IsOfWorker D.Time.read_for (V.ingests (V.config station))) log }
+        ensures { (extra : Self) (h : List (Entry V.Verdict V.Reply)) → is_begun extra (V.config station) begun → V.stands station h → EndsBehind (holds extra (V.config station) h) (output extra) (D.told desk.old) (D.told desk.new) (not result) };
 
     /// What runs beside the workers stays what it was at their start.
     ghost still: { (extra : Self) (cfg : V.Config) (before now : Self.Begun) → Self.Begun.did before now → is_begun extra cfg before → is_begun extra cfg now };
@@ -71,14 +81,18 @@ impl<T> Beside for Idle<T> {
 #[derive(Drop)]
 pub(crate) struct NoExtra;
 
-impl<D: Environment, V: Station> Extra<D, V> for NoExtra {
+impl<D: Environment, V: Receiving> Extra<D, V> for NoExtra {
     ghost use Rattle.std.specs.Prelude.{None};
+    ghost use Rattle.tesla_receiver.specs.Report.{report_of};
+    ghost use Rattle.tesla_run_replay.specs.ReportText.{report_text};
 
     type Begun = Idle<()>;
 
     ghost output = { λ _. None };
 
-    ghost holds = { λ _ _ _. Unit {0} };
+    ghost holds = { λ _ _ _ _. Unit {0} };
+
+    ghost text = { λ _ history. report_text (report_of history) };
 
     ghost allowed = { λ _. Unit {0} };
 
@@ -90,6 +104,10 @@ impl<D: Environment, V: Station> Extra<D, V> for NoExtra {
 
     fn begin(self, _desk: &mut D) -> Result<Idle<()>, Fault> {
         Ok(Idle { it: () })
+    }
+
+    fn lines(station: &V) -> Lines {
+        report_lines(&station.report())
     }
 
     fn end(begun: Idle<()>, _station: V, _desk: &mut D) -> bool {

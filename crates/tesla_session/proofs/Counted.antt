@@ -22,6 +22,7 @@ use Rattle.tesla_shared.specs.declared.draining.SinkEnd.TheVariants as sink_ends
 use Rattle.tesla_shared.specs.declared.ingesting.LinkEnd.{LinkEnd}
 use Rattle.tesla_shared.specs.declared.ingesting.LinkEnd.TheVariants as link_ends
 use Rattle.tesla_turn.specs.Held.{Ended, TurnId}
+use Rattle.tesla_shared.specs.Yields.{Yield}
 use Rattle.tesla_session.specs.Wanted.{Wanted, WantedLink, WantedSink, links_wanted, sinks_wanted, opening_for}
 use Rattle.tesla_session.specs.Session.{PassSeen, Seen, SeenLink, SeenSink, OpensWorker, RefusesWorker, OpensWorkers, OpensAll, RunWorkers, ClosesWorkers, RefusedSession, RanSession, ended_failed, drained_failed, link_failed, sink_failed, stop_by, outcome_by}
 use Rattle.tesla_session.proofs.Opened.{opening_of, openings_are, runs_openings}
@@ -32,9 +33,9 @@ use Rattle.tesla_session.proofs.Fresh.{AreFresh, fresh_workers}
 made_faults : (before now : Told) → MakesClock before now → now.faults ≡ before.faults
 made_faults before now makes = ap (λ (t : Told). t.faults) makes.same
 
-module _ {C : Type 0} where
+module _ {C V R : Type 0} where
   -- the opening of a worker raises no count
-  worker_faults : (before now : Told) (first later : PassSeen C) (wanted : Wanted) (worker : Seen C) → OpensWorker wanted before now first later worker → now.faults ≡ before.faults
+  worker_faults : (before now : Told) (first later : PassSeen C V R) (wanted : Wanted) (worker : Seen C V R) → OpensWorker wanted before now first later worker → now.faults ≡ before.faults
   worker_faults before now first later (WantedLink ingest own) (SeenLink worker) opens = made_faults opens.opened now opens.makes ∙ counts_stay before.faults opens.opened.faults opens.opens.counts (λ e. absurd cc)
   worker_faults before now first later (WantedLink ingest own) (SeenSink worker) opens = absurd opens
   worker_faults before now first later (WantedSink releaser own) (SeenLink worker) opens = absurd opens
@@ -64,9 +65,9 @@ counts_as fault result before now is counts = record {
   openings = cause_as before.openings now.openings counts.openings (λ e. cc) (λ e. cc);
 }
 
-module _ {C : Type 0} where
+module _ {C V R : Type 0} where
   -- the openings raise the count of openings where one was told as failed, and no other
-  opens_counts : (wanted : List Wanted) (before now : Told) (first later : PassSeen C) (workers : List (Seen C)) (result : Result (Unit {0}) Fault) → OpensWorkers wanted before now first later workers result → CountsOpening before.faults now.faults (result ≡ Err faults.Open)
+  opens_counts : (wanted : List Wanted) (before now : Told) (first later : PassSeen C V R) (workers : List (Seen C V R)) (result : Result (Unit {0}) Fault) → OpensWorkers wanted before now first later workers result → CountsOpening before.faults now.faults (result ≡ Err faults.Open)
   opens_counts [] before now first later workers result (workers_is, now_is, later_is, result_is) = record {
     reads = ap (λ (t : Told). t.faults.reads) now_is;
     writes = ap (λ (t : Told). t.faults.writes) now_is;
@@ -80,7 +81,7 @@ module _ {C : Type 0} where
   -- ---- closings of new workers
 
   -- the closings of workers that didn't fail raise no count
-  closes_fresh : (wire : List ℕ → Wire) (workers : List (Seen C)) (before now : Told) (first later : PassSeen C) → AreFresh wire workers → ClosesWorkers workers before now first later → now.faults ≡ before.faults
+  closes_fresh : (wire : List ℕ → Wire) (workers : List (Seen C V R)) (before now : Told) (first later : PassSeen C V R) → AreFresh wire workers → ClosesWorkers workers before now first later → now.faults ≡ before.faults
   closes_fresh wire [] before now first later fresh (now_is, later_is) = ap (λ (t : Told). t.faults) now_is
   closes_fresh wire (SeenLink worker ∷ workers) before now first later (own, fresh) (mid, middle, others, closes, later_is) =
       closes.counts ∙ ap (λ n. after_source mid.faults n) own.1 ∙ closes_fresh wire workers before mid first middle fresh others
@@ -90,24 +91,24 @@ module _ {C : Type 0} where
   -- ---- closings of workers that did their work
 
   -- the count of faults of a worker rose from none exactly where it failed
-  abbrev IsCounted : Seen C → Type 0
+  abbrev IsCounted : Seen C V R → Type 0
   IsCounted (SeenLink worker) = HasCause 0 worker.faults (worker.end ≡ link_ends.Failed)
   IsCounted (SeenSink worker) = HasCause 0 worker.faults (worker.end ≡ sink_ends.Failed)
 
-  abbrev AreCounted : List (Seen C) → Type 0
+  abbrev AreCounted : List (Seen C V R) → Type 0
   AreCounted [] = Unit {0}
   AreCounted (worker ∷ workers) = IsCounted worker × AreCounted workers
 
-  runs_counted : (wire : List ℕ → Wire) (workers done : List (Seen C)) → AreFresh wire workers → RunWorkers workers done → AreCounted done
-  runs_counted wire [] [] fresh runs = tt
-  runs_counted wire [] (after ∷ afters) fresh runs = absurd runs
-  runs_counted wire (before ∷ befores) [] fresh runs = absurd runs
-  runs_counted wire (SeenLink before ∷ befores) (SeenLink after ∷ afters) (own, fresh) (runs, others) =
-      (subst (λ (n : ℕ). HasCause n after.faults (after.end ≡ link_ends.Failed)) own.1 runs.cause, runs_counted wire befores afters fresh others)
-  runs_counted wire (SeenLink before ∷ befores) (SeenSink after ∷ afters) fresh (runs, others) = absurd runs
-  runs_counted wire (SeenSink before ∷ befores) (SeenLink after ∷ afters) fresh (runs, others) = absurd runs
-  runs_counted wire (SeenSink before ∷ befores) (SeenSink after ∷ afters) (own, fresh) (runs, others) =
-      (subst (λ (n : ℕ). HasCause n after.faults (after.end ≡ sink_ends.Failed)) own.1 runs.cause, runs_counted wire befores afters fresh others)
+  runs_counted : (yields : R → Yield) (wire : List ℕ → Wire) (workers done : List (Seen C V R)) → AreFresh wire workers → RunWorkers yields workers done → AreCounted done
+  runs_counted yields wire [] [] fresh runs = tt
+  runs_counted yields wire [] (after ∷ afters) fresh runs = absurd runs
+  runs_counted yields wire (before ∷ befores) [] fresh runs = absurd runs
+  runs_counted yields wire (SeenLink before ∷ befores) (SeenLink after ∷ afters) (own, fresh) (runs, others) =
+      (subst (λ (n : ℕ). HasCause n after.faults (after.end ≡ link_ends.Failed)) own.1 runs.cause, runs_counted yields wire befores afters fresh others)
+  runs_counted yields wire (SeenLink before ∷ befores) (SeenSink after ∷ afters) fresh (runs, others) = absurd runs
+  runs_counted yields wire (SeenSink before ∷ befores) (SeenLink after ∷ afters) fresh (runs, others) = absurd runs
+  runs_counted yields wire (SeenSink before ∷ befores) (SeenSink after ∷ afters) (own, fresh) (runs, others) =
+      (subst (λ (n : ℕ). HasCause n after.faults (after.end ≡ sink_ends.Failed)) own.1 runs.cause, runs_counted yields wire befores afters fresh others)
 
 link_is : (end : LinkEnd) → ended_failed end ≡ true → end ≡ link_ends.Failed
 link_is link_ends.Ended test = absurd cc
@@ -128,9 +129,9 @@ or_made true b test = refl
 or_made false b (inl test) = test
 or_made false b (inr test) = absurd cc
 
-module _ {C : Type 0} where
+module _ {C V R : Type 0} where
   -- the closings raise the count of reads where a link failed, and that of writes where a sink failed
-  closes_causes : (workers : List (Seen C)) (before now : Told) (first later : PassSeen C) → AreCounted workers → ClosesWorkers workers before now first later → HasCauses before.faults now.faults (list_any link_failed workers ≡ true) (list_any sink_failed workers ≡ true) ⊥
+  closes_causes : (workers : List (Seen C V R)) (before now : Told) (first later : PassSeen C V R) → AreCounted workers → ClosesWorkers workers before now first later → HasCauses before.faults now.faults (list_any link_failed workers ≡ true) (list_any sink_failed workers ≡ true) ⊥
   closes_causes [] before now first later counted (now_is, later_is) = record {
     reads = cause_none before.faults.reads now.faults.reads (ap (λ (t : Told). t.faults.reads) now_is) (λ e. cc);
     writes = cause_none before.faults.writes now.faults.writes (ap (λ (t : Told). t.faults.writes) now_is) (λ e. cc);
@@ -186,9 +187,9 @@ FailedSink openings now = (name : List ℕ) × IsAmong (OfSink name) openings ×
 failed_later : (openings : List Opening) (opening : Opening) (mid now : Told) → FailedSink openings mid → ((name : List ℕ) → IsAmong (OfSink name) openings → now.page name ≡ mid.page name) → FailedSink (opening ∷ openings) now
 failed_later openings opening mid now (name, among, failed) same = (name, inr among, subst (λ (p : Page). HasFailed p) (sym (same name among)) failed)
 
-module _ {C : Type 0} where
+module _ {C V R : Type 0} where
   -- where a sink failed, the page under the name of one tells so after all closings
-  closes_failed : (workers : List (Seen C)) (before now : Told) (first later : PassSeen C) → AreApart (map opening_of workers) → AreCounted workers → ClosesWorkers workers before now first later → list_any sink_failed workers ≡ true → FailedSink (map opening_of workers) now
+  closes_failed : (workers : List (Seen C V R)) (before now : Told) (first later : PassSeen C V R) → AreApart (map opening_of workers) → AreCounted workers → ClosesWorkers workers before now first later → list_any sink_failed workers ≡ true → FailedSink (map opening_of workers) now
   closes_failed [] before now first later apart counted closes failed = absurd cc
   closes_failed (SeenLink worker ∷ workers) before now first later apart (own, counted) (mid, middle, others, closes, later_is) failed =
       failed_later (map opening_of workers) (OfLink worker.name) mid now (closes_failed workers before mid first middle apart counted others failed) (λ name among. closes.pages name)
@@ -210,8 +211,8 @@ any_failed (OfPost own ∷ others) now name (inr among) failed = inr (any_failed
 any_failed (OfSink own ∷ others) now name (inl same) failed = inl (let is : name ≡ own = cc in subst (λ (n : List ℕ). HasFailed (now.page n)) is failed)
 any_failed (OfSink own ∷ others) now name (inr among) failed = inr (any_failed others now name among failed)
 
-module _ {C : Type 0} where
-  failed_told : (wanted : List Wanted) (now : Told) (done : List (Seen C)) (mid : Told) (first later : PassSeen C) → map opening_of done ≡ map opening_for wanted → AreApart (map opening_for wanted) → AreCounted done → ClosesWorkers done mid now first later → list_any sink_failed done ≡ true → AnyFailed (map opening_for wanted) now
+module _ {C V R : Type 0} where
+  failed_told : (wanted : List Wanted) (now : Told) (done : List (Seen C V R)) (mid : Told) (first later : PassSeen C V R) → map opening_of done ≡ map opening_for wanted → AreApart (map opening_for wanted) → AreCounted done → ClosesWorkers done mid now first later → list_any sink_failed done ≡ true → AnyFailed (map opening_for wanted) now
   failed_told wanted now done mid first later names apart counted closes failed =
       let it = closes_failed done mid now first later (subst (λ (os : List Opening). AreApart os) (sym names) apart) counted closes failed in
       any_failed (map opening_for wanted) now it.0 (subst (λ (os : List Opening). IsAmong (OfSink it.0) os) names it.1) it.2
@@ -279,9 +280,9 @@ pub record CountsRan (files : List Opening) (read write : Bool) (running now : T
   pub closes : HasCauses running.faults now.faults (read ≡ true) (write ≡ true) ⊥
   pub failed : write ≡ true → AnyFailed files now
 
-module _ {C : Type 0} where
+module _ {C V R : Type 0} where
   -- an opening was refused, and no other count rose
-  pub counts_refused : (wanted : List Wanted) (cfg : C) (before now : Told) (fault : Fault) → RefusedSession wanted cfg before now fault → CountsOpening before.faults now.faults (fault ≡ faults.Open)
+  pub counts_refused : (wanted : List Wanted) (cfg : C) (before now : Told) (fault : Fault) → RefusedSession V R wanted cfg before now fault → CountsOpening before.faults now.faults (fault ≡ faults.Open)
   counts_refused wanted cfg before now fault refused =
       let opened = opens_counts wanted before refused.mid _ refused.first refused.workers (Err fault) refused.opens in
       let fresh = fresh_workers wanted before refused.mid _ refused.first refused.workers (Err fault) refused.opens in
@@ -293,19 +294,19 @@ module _ {C : Type 0} where
       })
 
   -- all were opened, and no count rose
-  pub counts_opened : (wanted : List Wanted) (cfg : C) (before now : Told) (turn : TurnId) (first : PassSeen C) (workers : List (Seen C)) → OpensAll wanted cfg before now turn first workers → now.faults ≡ before.faults
+  pub counts_opened : (wanted : List Wanted) (cfg : C) (before now : Told) (turn : TurnId) (first : PassSeen C V R) (workers : List (Seen C V R)) → OpensAll wanted cfg before now turn first workers → now.faults ≡ before.faults
   counts_opened wanted cfg before now turn first workers opens = counts_stay before.faults now.faults (opens_counts wanted before now _ first workers (Ok tt) opens) (λ e. absurd cc)
 
   -- workers that were opened and made no call were closed, and no count rose
-  pub counts_unrun : (wanted : List Wanted) (cfg : C) (before mid start now : Told) (turn : TurnId) (first later : PassSeen C) (workers : List (Seen C)) → OpensAll wanted cfg before mid turn first workers → ClosesWorkers workers start now first later → now.faults ≡ start.faults
+  pub counts_unrun : (wanted : List Wanted) (cfg : C) (before mid start now : Told) (turn : TurnId) (first later : PassSeen C V R) (workers : List (Seen C V R)) → OpensAll wanted cfg before mid turn first workers → ClosesWorkers workers start now first later → now.faults ≡ start.faults
   counts_unrun wanted cfg before mid start now turn first later workers opens closes =
       closes_fresh before.live.wire workers start now first later (fresh_workers wanted before mid _ first workers (Ok tt) opens) closes
 
-  pub counts_ran : (wanted : List Wanted) (cfg : C) (before opened running now : Told) (end : Ended Entry) (stop : Option OutcomeView) → AreApart (map opening_for wanted) → (it : RanSession wanted cfg before opened running now end stop) → CountsRan (map opening_for wanted) (list_any link_failed it.ran.done) (list_any sink_failed it.ran.done) running now
-  counts_ran wanted cfg before opened running now end stop apart it =
+  pub counts_ran : (yields : R → Yield) (wanted : List Wanted) (cfg : C) (before opened running now : Told) (end : Ended (Entry V R)) (stop : Option OutcomeView) → AreApart (map opening_for wanted) → (it : RanSession yields wanted cfg before opened running now end stop) → CountsRan (map opening_for wanted) (list_any link_failed it.ran.done) (list_any sink_failed it.ran.done) running now
+  counts_ran yields wanted cfg before opened running now end stop apart it =
       let fresh = fresh_workers wanted before opened _ it.first it.workers (Ok tt) it.opens in
-      let counted = runs_counted before.live.wire it.workers it.ran.done fresh it.ran.runs in
-      let names : map opening_of it.ran.done ≡ map opening_for wanted = runs_openings it.workers it.ran.done it.ran.runs ∙ openings_are wanted before opened _ it.first it.workers (Ok tt) refl it.opens in
+      let counted = runs_counted yields before.live.wire it.workers it.ran.done fresh it.ran.runs in
+      let names : map opening_of it.ran.done ≡ map opening_for wanted = runs_openings yields it.workers it.ran.done it.ran.runs ∙ openings_are wanted before opened _ it.first it.workers (Ok tt) refl it.opens in
       record {
         closes = closes_causes it.ran.done running now it.first it.ran.later counted it.ran.closes;
         failed = λ some. failed_told wanted now it.ran.done running it.first it.ran.later names apart counted it.ran.closes some;

@@ -11,6 +11,7 @@ use Rattle.tesla_front.specs.Openings.{IsAmong}
 use Rattle.tesla_front.specs.declared.fault.Fault.{Fault}
 use Rattle.tesla_front.specs.declared.fault.Fault.TheVariants as faults
 use Rattle.tesla_front.proofs.Openings.{unwritten_page}
+use Rattle.tesla_shared.specs.Yields.{Yield}
 use Rattle.tesla_session.specs.Wanted.{Wanted, WantedLink, WantedSink}
 use Rattle.tesla_session.specs.Session.{PassSeen, Seen, SeenLink, SeenSink, OpensWorker, RefusesWorker, OpensWorkers, ClosesWorkers}
 use Rattle.tesla_session.proofs.Opened.{opening_of, opens_workers, same_or_not}
@@ -30,9 +31,9 @@ keeps_then before mid now first later = record { wires = λ name. later.wires na
 keeps_made : (before now : Told) → MakesClock before now → KeepsLinks before.live now.live
 keeps_made before now makes = record { wires = λ name. ap (λ (t : Told). t.live.wire name) makes.same; lefts = λ name. ap (λ (t : Told). t.live.left name) makes.same }
 
-module _ {C : Type 0} where
-  module _ (before now : Told) (first later : PassSeen C) where
-    worker_keeps : (wanted : Wanted) (worker : Seen C) → OpensWorker wanted before now first later worker → KeepsLinks before.live now.live
+module _ {C V R : Type 0} where
+  module _ (before now : Told) (first later : PassSeen C V R) where
+    worker_keeps : (wanted : Wanted) (worker : Seen C V R) → OpensWorker wanted before now first later worker → KeepsLinks before.live now.live
     worker_keeps (WantedLink ingest own) (SeenLink worker) opens = keeps_then before.live opens.opened.live now.live (keeps_same before.live opens.opened.live opens.opens.live) (keeps_made opens.opened now opens.makes)
     worker_keeps (WantedLink ingest own) (SeenSink worker) opens = absurd opens
     worker_keeps (WantedSink releaser own) (SeenLink worker) opens = absurd opens
@@ -42,8 +43,8 @@ refused_keeps : (wanted : Wanted) (before now : Told) (fault : Fault) → Refuse
 refused_keeps (WantedLink ingest own) before now fault (refusal, tried, fault_is) = keeps_same before.live now.live tried.live
 refused_keeps (WantedSink releaser own) before now fault (refusal, tried, fault_is) = keeps_same before.live now.live tried.live
 
-module _ {C : Type 0} where
-  opens_keep : (wanted : List Wanted) (before now : Told) (first later : PassSeen C) (workers : List (Seen C)) (result : Result (Unit {0}) Fault) → OpensWorkers wanted before now first later workers result → KeepsLinks before.live now.live
+module _ {C V R : Type 0} where
+  opens_keep : (wanted : List Wanted) (before now : Told) (first later : PassSeen C V R) (workers : List (Seen C V R)) (result : Result (Unit {0}) Fault) → OpensWorkers wanted before now first later workers result → KeepsLinks before.live now.live
   opens_keep [] before now first later workers result (workers_is, now_is, later_is, result_is) = keeps_same before.live now.live (ap (λ (t : Told). t.live) now_is)
   opens_keep (wanted ∷ others) before now first later workers result (inl (fault, refused, later_is, workers_is, result_is)) = refused_keeps wanted before now fault refused
   opens_keep (wanted ∷ others) before now first later workers result (inr (worker, rest, mid, middle, workers_is, opens, opened)) =
@@ -52,36 +53,36 @@ module _ {C : Type 0} where
   -- ---- new workers
 
   -- a new worker has all letters that are there for its link, or nothing was written to its sink, and neither failed
-  abbrev pub IsFresh : (List ℕ → Wire) → Seen C → Type 0
+  abbrev pub IsFresh : (List ℕ → Wire) → Seen C V R → Type 0
   IsFresh wire (SeenLink worker) = OpenedLink (wire worker.name) worker.left × (worker.faults ≡ 0)
   IsFresh wire (SeenSink worker) = IfSome worker.written (λ bytes. bytes ≡ []) × (worker.faults ≡ 0)
 
-  abbrev pub AreFresh : (List ℕ → Wire) → List (Seen C) → Type 0
+  abbrev pub AreFresh : (List ℕ → Wire) → List (Seen C V R) → Type 0
   AreFresh wire [] = Unit {0}
   AreFresh wire (worker ∷ workers) = IsFresh wire worker × AreFresh wire workers
 
-  fresh_by : (wire other : List ℕ → Wire) → ((name : List ℕ) → other name ≡ wire name) → (worker : Seen C) → IsFresh other worker → IsFresh wire worker
+  fresh_by : (wire other : List ℕ → Wire) → ((name : List ℕ) → other name ≡ wire name) → (worker : Seen C V R) → IsFresh other worker → IsFresh wire worker
   fresh_by wire other same (SeenLink worker) fresh = (subst (λ (w : Wire). OpenedLink w worker.left) (same worker.name) fresh.0, fresh.1)
   fresh_by wire other same (SeenSink worker) fresh = fresh
 
-  all_fresh_by : (wire other : List ℕ → Wire) → ((name : List ℕ) → other name ≡ wire name) → (workers : List (Seen C)) → AreFresh other workers → AreFresh wire workers
+  all_fresh_by : (wire other : List ℕ → Wire) → ((name : List ℕ) → other name ≡ wire name) → (workers : List (Seen C V R)) → AreFresh other workers → AreFresh wire workers
   all_fresh_by wire other same [] fresh = tt
   all_fresh_by wire other same (worker ∷ workers) (own, others) = (fresh_by wire other same worker own, all_fresh_by wire other same workers others)
 
-  fresh_worker : (before now : Told) (first later : PassSeen C) (wanted : Wanted) (worker : Seen C) → OpensWorker wanted before now first later worker → IsFresh before.live.wire worker
+  fresh_worker : (before now : Told) (first later : PassSeen C V R) (wanted : Wanted) (worker : Seen C V R) → OpensWorker wanted before now first later worker → IsFresh before.live.wire worker
   fresh_worker before now first later (WantedLink ingest own) (SeenLink worker) opens = (subst (λ (n : List ℕ). OpenedLink (before.live.wire n) worker.left) (sym opens.name_is) opens.letters, opens.fresh)
   fresh_worker before now first later (WantedLink ingest own) (SeenSink worker) opens = absurd opens
   fresh_worker before now first later (WantedSink releaser own) (SeenLink worker) opens = absurd opens
   fresh_worker before now first later (WantedSink releaser own) (SeenSink worker) opens = (opens.empty, opens.fresh)
 
   -- workers that were opened are new
-  pub fresh_workers : (wanted : List Wanted) (before now : Told) (first later : PassSeen C) (workers : List (Seen C)) (result : Result (Unit {0}) Fault) → OpensWorkers wanted before now first later workers result → AreFresh before.live.wire workers
+  pub fresh_workers : (wanted : List Wanted) (before now : Told) (first later : PassSeen C V R) (workers : List (Seen C V R)) (result : Result (Unit {0}) Fault) → OpensWorkers wanted before now first later workers result → AreFresh before.live.wire workers
   fresh_workers [] before now first later workers result (workers_is, now_is, later_is, result_is) =
-      subst (λ (ws : List (Seen C)). AreFresh before.live.wire ws) (sym workers_is) tt
+      subst (λ (ws : List (Seen C V R)). AreFresh before.live.wire ws) (sym workers_is) tt
   fresh_workers (wanted ∷ others) before now first later workers result (inl (fault, refused, later_is, workers_is, result_is)) =
-      subst (λ (ws : List (Seen C)). AreFresh before.live.wire ws) (sym workers_is) tt
+      subst (λ (ws : List (Seen C V R)). AreFresh before.live.wire ws) (sym workers_is) tt
   fresh_workers (wanted ∷ others) before now first later workers result (inr (worker, rest, mid, middle, workers_is, opens, opened)) =
-      subst (λ (ws : List (Seen C)). AreFresh before.live.wire ws) (sym workers_is)
+      subst (λ (ws : List (Seen C V R)). AreFresh before.live.wire ws) (sym workers_is)
       (fresh_worker before mid first middle wanted worker opens, all_fresh_by before.live.wire mid.live.wire (worker_keeps before mid first middle wanted worker opens).wires rest (fresh_workers others mid now middle later rest result opened))
 
 -- ---- the closings of new workers
@@ -90,9 +91,9 @@ left_on : (wire : Wire) (first mid now : Option Remainder) → now ≡ mid → (
 left_on wire first mid now same (inl is) = inl (same ∙ is)
 left_on wire first mid now same (inr all) = inr (subst (λ (r : Option Remainder). LeavesAll wire r) (sym same) all)
 
-module _ {C : Type 0} where
+module _ {C V R : Type 0} where
   -- what was left of a link is as before, or all that there is
-  closed_lefts : (wire : List ℕ → Wire) (workers : List (Seen C)) (before now : Told) (first later : PassSeen C) → AreFresh wire workers → ClosesWorkers workers before now first later → (name : List ℕ) → (now.live.left name ≡ before.live.left name) ⊎ LeavesAll (wire name) (now.live.left name)
+  closed_lefts : (wire : List ℕ → Wire) (workers : List (Seen C V R)) (before now : Told) (first later : PassSeen C V R) → AreFresh wire workers → ClosesWorkers workers before now first later → (name : List ℕ) → (now.live.left name ≡ before.live.left name) ⊎ LeavesAll (wire name) (now.live.left name)
   closed_lefts wire [] before now first later fresh (now_is, later_is) name = inl (ap (λ (t : Told). t.live.left name) now_is)
   closed_lefts wire (SeenLink worker ∷ workers) before now first later (own, fresh) (mid, middle, others, closes, later_is) name =
       elim (same_or_not name worker.name) [
@@ -104,11 +105,11 @@ module _ {C : Type 0} where
       left_on (wire name) (before.live.left name) (mid.live.left name) (now.live.left name) (ap (λ (l : Live). l.left name) closes.live) (closed_lefts wire workers before mid first middle fresh others name)
 
   -- a page is as before and no sink among these was closed under its name, or nothing was written to it
-  abbrev ClosedPage : List ℕ → List (Seen C) → Told → Told → Type 0
+  abbrev ClosedPage : List ℕ → List (Seen C V R) → Told → Told → Type 0
   ClosedPage name workers before now =
       ((now.page name ≡ before.page name) × (IsAmong (OfSink name) (map opening_of workers) → ⊥)) ⊎ IsUnwritten (now.page name)
 
-  closed_pages : (wire : List ℕ → Wire) (workers : List (Seen C)) (before now : Told) (first later : PassSeen C) → AreFresh wire workers → ClosesWorkers workers before now first later → (name : List ℕ) → ClosedPage name workers before now
+  closed_pages : (wire : List ℕ → Wire) (workers : List (Seen C V R)) (before now : Told) (first later : PassSeen C V R) → AreFresh wire workers → ClosesWorkers workers before now first later → (name : List ℕ) → ClosedPage name workers before now
   closed_pages wire [] before now first later fresh (now_is, later_is) name = inl (ap (λ (t : Told). t.page name) now_is, λ never. never)
   closed_pages wire (SeenLink worker ∷ workers) before now first later (own, fresh) (mid, middle, others, closes, later_is) name =
       elim (closed_pages wire workers before mid first middle fresh others name) [
@@ -134,9 +135,9 @@ pub refused_by : (wanted : Wanted) (before now : Told) (fault : Fault) → Refus
 refused_by (WantedLink ingest own) before now fault (refusal, tried, fault_is) = unopened_fault refusal fault fault_is
 refused_by (WantedSink releaser own) before now fault (refusal, tried, fault_is) = unopened_fault refusal fault fault_is
 
-module _ {C : Type 0} where
+module _ {C V R : Type 0} where
   -- a refused opening is told as a failed opening or as want of memory
-  pub refused_fault : (wanted : List Wanted) (before now : Told) (first later : PassSeen C) (workers : List (Seen C)) (result : Result (Unit {0}) Fault) (fault : Fault) → OpensWorkers wanted before now first later workers result → result ≡ Err fault → (fault ≡ faults.Open) ⊎ (fault ≡ faults.NoMemory)
+  pub refused_fault : (wanted : List Wanted) (before now : Told) (first later : PassSeen C V R) (workers : List (Seen C V R)) (result : Result (Unit {0}) Fault) (fault : Fault) → OpensWorkers wanted before now first later workers result → result ≡ Err fault → (fault ≡ faults.Open) ⊎ (fault ≡ faults.NoMemory)
   refused_fault [] before now first later workers result fault (workers_is, now_is, later_is, result_is) refused = absurd cc
   refused_fault (wanted ∷ others) before now first later workers result fault (inl (own, why, later_is, workers_is, result_is)) refused =
       let same : own ≡ fault = cc in
@@ -147,7 +148,7 @@ module _ {C : Type 0} where
   -- ---- workers that made no call
 
   -- workers were opened, and closed again: no letter left a link
-  pub unheard_links : (wanted : List Wanted) (before mid start now : Told) (first middle later : PassSeen C) (workers : List (Seen C)) (result : Result (Unit {0}) Fault) → OpensWorkers wanted before mid first middle workers result → start.live ≡ mid.live → ClosesWorkers workers start now middle later
+  pub unheard_links : (wanted : List Wanted) (before mid start now : Told) (first middle later : PassSeen C V R) (workers : List (Seen C V R)) (result : Result (Unit {0}) Fault) → OpensWorkers wanted before mid first middle workers result → start.live ≡ mid.live → ClosesWorkers workers start now middle later
       → (name : List ℕ) → (now.live.left name ≡ before.live.left name) ⊎ LeavesAll (before.live.wire name) (now.live.left name)
   unheard_links wanted before mid start now first middle later workers result opens live closes name =
       let fresh = fresh_workers wanted before mid first middle workers result opens in
@@ -158,7 +159,7 @@ module _ {C : Type 0} where
       ]
 
   -- and nothing was written to a sink
-  pub unwritten_pages : (wanted : List Wanted) (before mid start now : Told) (first middle later : PassSeen C) (workers : List (Seen C)) (result : Result (Unit {0}) Fault) → OpensWorkers wanted before mid first middle workers result → ((name : List ℕ) → start.page name ≡ mid.page name) → ClosesWorkers workers start now middle later
+  pub unwritten_pages : (wanted : List Wanted) (before mid start now : Told) (first middle later : PassSeen C V R) (workers : List (Seen C V R)) (result : Result (Unit {0}) Fault) → OpensWorkers wanted before mid first middle workers result → ((name : List ℕ) → start.page name ≡ mid.page name) → ClosesWorkers workers start now middle later
       → (name : List ℕ) → (now.page name ≡ before.page name) ⊎ IsUnwritten (now.page name)
   unwritten_pages wanted before mid start now first middle later workers result opens pages closes name =
       let fresh = fresh_workers wanted before mid first middle workers result opens in

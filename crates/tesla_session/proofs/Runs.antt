@@ -1,15 +1,16 @@
 -- Workers each of which did its work, by their places and as lists.
 use Rattle.std.proofs.Common.{◌≡◌, ◌<◌, ℕ, zero, suc, List, [], ◌∷◌, map, length, arith, slice_index_or}
 use Rattle.tesla_turn.specs.Held.{TurnId}
+use Rattle.tesla_shared.specs.Yields.{Yield}
 use Rattle.tesla_session.specs.Session.{Seen, pass_of, AreOf, AreReady, IsReady, RunsWorker, RunWorkers}
 
-module _ {C : Type 0} where
-  module _ {X : Type 0} (seen : X → Seen C) where
-    pub runs_each : (xs ys : List X) → length ys ≡ length xs → ((i : ℕ) (d : X) → i < length xs → RunsWorker (seen (slice_index_or xs i d)) (seen (slice_index_or ys i d))) → RunWorkers (map seen xs) (map seen ys)
-    runs_each [] [] same each = tt
-    runs_each [] (y ∷ ys) same each = absurd (omega arith)
-    runs_each (x ∷ xs) [] same each = absurd (omega arith)
-    runs_each (x ∷ xs) (y ∷ ys) same each = (each 0 x (omega arith), runs_each xs ys (omega arith) (λ i d inside. each (suc i) d (omega arith)))
+module _ {C V R : Type 0} where
+  module _ {X : Type 0} (seen : X → Seen C V R) where
+    pub runs_each : (yields : R → Yield) (xs ys : List X) → length ys ≡ length xs → ((i : ℕ) (d : X) → i < length xs → RunsWorker yields (seen (slice_index_or xs i d)) (seen (slice_index_or ys i d))) → RunWorkers yields (map seen xs) (map seen ys)
+    runs_each yields [] [] same each = tt
+    runs_each yields [] (y ∷ ys) same each = absurd (omega arith)
+    runs_each yields (x ∷ xs) [] same each = absurd (omega arith)
+    runs_each yields (x ∷ xs) (y ∷ ys) same each = (each 0 x (omega arith), runs_each yields xs ys (omega arith) (λ i d inside. each (suc i) d (omega arith)))
 
     pub turn_at : (turn : TurnId) (xs : List X) (i : ℕ) (d : X) → i < length xs → AreOf turn (map seen xs) → (pass_of (seen (slice_index_or xs i d))).turn ≡ turn
     turn_at turn [] i d inside all = absurd (omega arith)

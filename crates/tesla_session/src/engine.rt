@@ -5,6 +5,7 @@ ghost use Rattle.std.specs.Option.{option_map};
 ghost use Rattle.tesla_desk.specs.Outside.{Told};
 ghost use Rattle.tesla_front.specs.OutcomeView.{stop_view};
 ghost use Rattle.tesla_turn.specs.Held.{first_pass};
+ghost use Rattle.tesla_shared.specs.Due.{IsDue};
 ghost use Rattle.tesla_session.specs.Allowed.{MayAsk, MayAskLinks, MayReleaseAll};
 ghost use Rattle.tesla_session.specs.Wanted.{Wanted, wanted_for};
 ghost use Rattle.tesla_session.specs.Session.{AreOf, AreReady, ClosesWorkers, OpensAll, OpensWorkers, RefusedSession, RunWorkers, RunsOpened, calls_most, stop_of, workers_of};
@@ -97,10 +98,10 @@ fn open_all<D: Environment, V: Station>(
     requires links { (session.old.links.items ≡ []) × (length links.now ≤ vec_capacity session.old.links) }
     requires sinks { (session.old.sinks.items ≡ []) × (length sinks.now ≤ vec_capacity session.old.sinks) }
     requires alone { length session.old.first.joined ≡ 1 }
-    requires ingests { (cfg : V.Config) → session.old.first.config ≡ Some cfg → (V.receiver cfg).ingests ≡ length links.now }
+    requires ingests { (cfg : V.Config) → session.old.first.config ≡ Some cfg → V.ingests cfg ≡ length links.now }
     requires asked { MayAsk D.Wire.brought D.Time.may_ask }
     requires any_link { MayAskLinks D.Wire.may_ask }
-    requires released { (cfg : V.Config) → session.old.first.config ≡ Some cfg → MayReleaseAll D.Pieces.name D.Pieces.written D.Pieces.may_write D.Time.read_for (V.receiver cfg) 0 sinks.now }
+    requires released { (cfg : V.Config) → session.old.first.config ≡ Some cfg → MayReleaseAll D.Pieces.name D.Pieces.written D.Pieces.may_write V.yields (IsDue V.yields (V.is_legal cfg) (V.ingests cfg) D.Time.read_for) 0 sinks.now }
     ensures opens { OpensWorkers (wanted_for links.now sinks.now) (D.told desk.old) (D.told desk.new) session.old.first session.new.first (workers_of session.new.links.items session.new.sinks.items) result }
     ensures turn { session.new.turn ≡ session.old.turn }
 {
@@ -129,12 +130,12 @@ pub fn open_session<D: Environment, V: Station>(
     requires links { (session.links.items ≡ []) × (length links.now ≤ vec_capacity session.links) }
     requires sinks { (session.sinks.items ≡ []) × (length sinks.now ≤ vec_capacity session.sinks) }
     requires first { (cfg : V.Config) × (session.first ≡ first_pass session.turn cfg (1 + length links.now + length sinks.now) calls_most) }
-    requires ingests { (cfg : V.Config) → session.first.config ≡ Some cfg → (V.receiver cfg).ingests ≡ length links.now }
+    requires ingests { (cfg : V.Config) → session.first.config ≡ Some cfg → V.ingests cfg ≡ length links.now }
     requires asked { MayAsk D.Wire.brought D.Time.may_ask }
     requires any_link { MayAskLinks D.Wire.may_ask }
-    requires released { (cfg : V.Config) → session.first.config ≡ Some cfg → MayReleaseAll D.Pieces.name D.Pieces.written D.Pieces.may_write D.Time.read_for (V.receiver cfg) 0 sinks.now }
+    requires released { (cfg : V.Config) → session.first.config ≡ Some cfg → MayReleaseAll D.Pieces.name D.Pieces.written D.Pieces.may_write V.yields (IsDue V.yields (V.is_legal cfg) (V.ingests cfg) D.Time.read_for) 0 sinks.now }
     ensures opened { IfOk result (λ it. (cfg : V.Config) → session.first ≡ first_pass session.turn cfg (1 + length links.now + length sinks.now) calls_most → OpensAll (wanted_for links.now sinks.now) cfg (D.told desk.old) (D.told desk.new) it.turn it.first (workers_of it.links.items it.sinks.items)) }
-    ensures refused { (fault : _) → result ≡ Err fault → (cfg : V.Config) → session.first ≡ first_pass session.turn cfg (1 + length links.now + length sinks.now) calls_most → RefusedSession (wanted_for links.now sinks.now) cfg (D.told desk.old) (D.told desk.new) fault }
+    ensures refused { (fault : _) → result ≡ Err fault → (cfg : V.Config) → session.first ≡ first_pass session.turn cfg (1 + length links.now + length sinks.now) calls_most → RefusedSession V.Verdict V.Reply (wanted_for links.now sinks.now) cfg (D.told desk.old) (D.told desk.new) fault }
 {
     match open_all(desk, links, sinks, &mut session) {
         Ok(()) => Ok(session),
@@ -153,7 +154,7 @@ fn run_all<R: Threads + Wait + Sync, D: Environment, V: Station + Send, B: Besid
 ) -> Option<Stop>
     requires own { AreOf session.old.turn (workers_of session.old.links.items session.old.sinks.items) }
     requires ready { AreReady (workers_of session.old.links.items session.old.sinks.items) }
-    ensures runs { RunWorkers (workers_of session.old.links.items session.old.sinks.items) (workers_of session.new.links.items session.new.sinks.items) }
+    ensures runs { RunWorkers V.yields (workers_of session.old.links.items session.old.sinks.items) (workers_of session.new.links.items session.new.sinks.items) }
     ensures stop { option_map stop_view result ≡ stop_of (workers_of session.new.links.items session.new.sinks.items) }
     ensures same { (session.new.turn ≡ session.old.turn) × (session.new.first ≡ session.old.first) }
     ensures beside { B.did beside.old beside.new }
@@ -209,8 +210,8 @@ pub fn run_opened<R: Threads + Wait + Sync, D: Environment, V: Station + Send, B
     desk: &mut D,
 ) -> Ran<V>
     requires { (wanted : List Wanted) × (cfg : V.Config) × (before : Told) × (now : Told) × OpensAll wanted cfg before now session.turn session.first (workers_of session.links.items session.sinks.items) }
-    ensures runs { RunsOpened session.first (workers_of session.links.items session.sinks.items) (D.told desk.old) (D.told desk.new) result.last (option_map stop_view result.stop) }
-    ensures stands { StandsForCalls V.config V.stands V.receiver D.Time.read_for result.station result.last.history }
+    ensures runs { RunsOpened V.yields session.first (workers_of session.links.items session.sinks.items) (D.told desk.old) (D.told desk.new) result.last (option_map stop_view result.stop) }
+    ensures stands { StandsForCalls V.config V.stands V.ingests D.Time.read_for result.station result.last.history }
     ensures config { session.first.config ≡ Some (V.config result.station) }
     ensures beside { B.did beside.old beside.new }
 {

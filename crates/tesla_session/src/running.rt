@@ -17,7 +17,7 @@ use tesla_turn::{Permitting, Turn};
 /// What works over a turn of a station.
 trait Work<V: Station + Permitting> {
     /// What is seen of it.
-    ghost seen: { Self → Seen V.Config };
+    ghost seen: { Self → Seen V.Config V.Verdict V.Reply };
 
     /// It may work over the turn.
     ghost can_work: { TurnId → Self → Type 0 };
@@ -25,7 +25,7 @@ trait Work<V: Station + Permitting> {
     /// Does its work.
     fn work<R: Wait>(&mut self, rt: &R, turn: &Turn<V>)
         requires { can_work turn.now self.old }
-        ensures { RunsWorker (seen self.old) (seen self.new) };
+        ensures { RunsWorker V.yields (seen self.old) (seen self.new) };
 }
 
 impl<V: Station, K: Link, C: Clock + Drop, G: Gate> Work<Witnessed<V, C>>
@@ -57,14 +57,14 @@ fn run_each<R: Threads + Wait + Sync, V: Station + Permitting + Send, W: Work<V>
     workers: &mut [W],
 )
     requires { All (W.can_work turn.now) workers.old }
-    ensures { RunWorkers (map W.seen workers.old) (map W.seen workers.new) }
+    ensures { RunWorkers V.yields (map W.seen workers.old) (map W.seen workers.new) }
 {
     if workers.is_empty() {
         return;
     }
     let work = |_place: usize, worker: &mut W|
         requires { W.can_work turn.now worker.now }
-        ensures { RunsWorker (W.seen worker.entry.now) (W.seen worker.exit.now) }
+        ensures { RunsWorker V.yields (W.seen worker.entry.now) (W.seen worker.exit.now) }
     { worker.work(rt, turn) };
     let threads = workers.len();
     for_each_mut(rt, workers, threads, &work);
@@ -79,16 +79,16 @@ fn run_both<
 >(rt: &R, turn: &Turn<V>, last: &mut [L], first: &mut [F])
     requires last { All (L.can_work turn.now) last.old }
     requires first { All (F.can_work turn.now) first.old }
-    ensures last { RunWorkers (map L.seen last.old) (map L.seen last.new) }
-    ensures first { RunWorkers (map F.seen first.old) (map F.seen first.new) }
+    ensures last { RunWorkers V.yields (map L.seen last.old) (map L.seen last.new) }
+    ensures first { RunWorkers V.yields (map F.seen first.old) (map F.seen first.new) }
 {
     let mut run_last = ||
         requires { IsSync R.row × IsSend L.row × All (L.can_work turn.now) last.now }
-        ensures { RunWorkers (map L.seen last.entry.now) (map L.seen last.exit.now) }
+        ensures { RunWorkers V.yields (map L.seen last.entry.now) (map L.seen last.exit.now) }
     { run_each(rt, turn, last) };
     let mut run_first = ||
         requires { IsSync R.row × IsSend F.row × All (F.can_work turn.now) first.now }
-        ensures { RunWorkers (map F.seen first.entry.now) (map F.seen first.exit.now) }
+        ensures { RunWorkers V.yields (map F.seen first.entry.now) (map F.seen first.exit.now) }
     { run_each(rt, turn, first) };
     join_mut(rt, &mut run_last, &mut run_first);
 }
@@ -103,15 +103,15 @@ fn run_beside<
 >(rt: &R, turn: &Turn<V>, last: &mut [L], first: &mut [F], beside: &mut B)
     requires last { All (L.can_work turn.now) last.old }
     requires first { All (F.can_work turn.now) first.old }
-    ensures last { RunWorkers (map L.seen last.old) (map L.seen last.new) }
-    ensures first { RunWorkers (map F.seen first.old) (map F.seen first.new) }
+    ensures last { RunWorkers V.yields (map L.seen last.old) (map L.seen last.new) }
+    ensures first { RunWorkers V.yields (map F.seen first.old) (map F.seen first.new) }
     ensures beside { B.did beside.old beside.new }
 {
     let ended = Ended::new();
     let flag = &ended;
     let mut run_workers = ||
         requires { IsSync R.row × IsSend L.row × IsSend F.row × All (L.can_work turn.now) last.now × All (F.can_work turn.now) first.now }
-        ensures { RunWorkers (map L.seen last.entry.now) (map L.seen last.exit.now) × RunWorkers (map F.seen first.entry.now) (map F.seen first.exit.now) }
+        ensures { RunWorkers V.yields (map L.seen last.entry.now) (map L.seen last.exit.now) × RunWorkers V.yields (map F.seen first.entry.now) (map F.seen first.exit.now) }
     { run_then_tell(rt, turn, last, first, flag) };
     let mut run_other = ||
         ensures { B.did beside.entry.now beside.exit.now }
@@ -128,7 +128,7 @@ fn run_then_tell<
 >(rt: &R, turn: &Turn<V>, last: &mut [L], first: &mut [F], ended: &Ended)
     requires last { All (L.can_work turn.now) last.old }
     requires first { All (F.can_work turn.now) first.old }
-    ensures { RunWorkers (map L.seen last.old) (map L.seen last.new) × RunWorkers (map F.seen first.old) (map F.seen first.new) }
+    ensures { RunWorkers V.yields (map L.seen last.old) (map L.seen last.new) × RunWorkers V.yields (map F.seen first.old) (map F.seen first.new) }
 {
     run_both(rt, turn, last, first);
     ended.set();
@@ -155,8 +155,8 @@ pub fn run_workers<
     requires ready_links { AreReady (map SeenLink links.old) }
     requires sinks { AreOf turn.now (map SeenSink sinks.old) }
     requires ready_sinks { AreReady (map SeenSink sinks.old) }
-    ensures links { RunWorkers (map SeenLink links.old) (map SeenLink links.new) }
-    ensures sinks { RunWorkers (map SeenSink sinks.old) (map SeenSink sinks.new) }
+    ensures links { RunWorkers V.yields (map SeenLink links.old) (map SeenLink links.new) }
+    ensures sinks { RunWorkers V.yields (map SeenSink sinks.old) (map SeenSink sinks.new) }
     ensures beside { B.did beside.old beside.new }
 {
     run_beside(rt, turn, sinks, links, beside);

@@ -2,6 +2,7 @@
 
 ghost use Rattle.std.specs.Prelude.{◌≡◌, ◌<◌, ◌≤◌, ◌+◌, [], Err, IfOk, List, ℕ, map, length, vec_len, vec_capacity};
 ghost use Rattle.tesla_turn.specs.Held.{next_pass};
+ghost use Rattle.tesla_shared.specs.Due.{IsDue};
 ghost use Rattle.tesla_session.specs.Allowed.{AllowsLink, AllowsSink, AreAllowed};
 ghost use Rattle.tesla_session.specs.Wanted.{Wanted, WantedLink, WantedSink};
 ghost use Rattle.tesla_session.specs.Session.{AreOf, ClosesWorker, ClosesWorkers, OpensMore, OpensWorker, PassSeen, RefusesWorker, Seen, SeenLink, SeenSink, name_of, pass_of, split_pass};
@@ -28,13 +29,13 @@ pub type Sinks<D, V> = Vec<
 /// A worker over what a desk opens for it: a link with its clock and its gate, or a sink with its gate.
 pub(crate) trait DeskWorker<D: Environment, V: Station + Permitting> {
     /// What is seen of it.
-    ghost seen: { Self → Seen V.Config };
+    ghost seen: { Self → Seen V.Config V.Verdict V.Reply };
 
     /// What it wants of the desk, by its number and a name.
     ghost wanted: { ℕ → List ℕ → Wanted };
 
     /// It may be opened behind the first pass, by its number and a name.
-    ghost allowed: { PassSeen V.Config → ℕ → List ℕ → Type 0 };
+    ghost allowed: { PassSeen V.Config V.Verdict V.Reply → ℕ → List ℕ → Type 0 };
 
     /// A worker of this number that has made no call, with a pass that is split off the first. What it works with is opened
     /// under the name.
@@ -119,7 +120,7 @@ impl<D: Environment, V: Station> DeskWorker<D, Shared<D, V>>
 
     ghost wanted = { WantedSink };
 
-    ghost allowed = { AllowsSink D.Pieces.name D.Pieces.written D.Pieces.may_write D.Time.read_for V.receiver };
+    ghost allowed = { AllowsSink D.Pieces.name D.Pieces.written D.Pieces.may_write V.yields (λ cfg. IsDue V.yields (V.is_legal cfg) (V.ingests cfg) D.Time.read_for) V.ingests };
 
     fn open(
         desk: &mut D,

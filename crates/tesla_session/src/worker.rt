@@ -1,11 +1,9 @@
 //! The workers of a station, each with what it works with.
 
 ghost use Rattle.std.specs.Prelude.{◌≡◌, ◌<◌, ◌+◌, ℕ, suc, List, [], Some, IfSome, true};
-ghost use Rattle.tesla_base.specs.declared.release.Head.{Head};
 ghost use Rattle.tesla_turn.specs.Held.{left_of};
 ghost use Rattle.tesla_shared.specs.Due.{IsDue};
-ghost use Rattle.tesla_shared.specs.Workers.{record_in};
-ghost use Rattle.tesla_state.specs.declared.replies.Reply.TheVariants.{Given};
+ghost use Rattle.tesla_shared.specs.Yields.{Record};
 ghost use Rattle.tesla_session.specs.Session.{LinkSeen, SinkSeen, RunsLink, RunsSink};
 
 use std::marker::Model;
@@ -30,7 +28,7 @@ pub struct LinkWorker<V: Station, K: Link, C: Clock, G: Gate> {
 }
 
 impl<V: Station, K: Link, C: Clock, G: Gate> Model for LinkWorker<V, K, C, G> {
-    ghost Value = { LinkSeen V.Config };
+    ghost Value = { LinkSeen V.Config V.Verdict V.Reply };
 
     ghost view = { λ it. record { ingest = it.ingest; name = K.name it.link; left = K.left it.link; faults = K.faults it.link; told = C.told it.clock; pass = it.pass; end = it.end } };
 }
@@ -65,12 +63,12 @@ pub struct SinkWorker<V: Station, C: Clock, S: Output, G: Gate> {
     pub pass: Pass<Witnessed<V, C>>,
     /// Why it ended last.
     pub end: SinkEnd,
-    ghost own: { (cfg : V.Config) → pass.config ≡ Some cfg → pass.number ≡ suc ((V.receiver cfg).ingests + releaser) },
-    ghost due: { (cfg : V.Config) → pass.config ≡ Some cfg → (it : S) (head : Head) (payload : List ℕ) → S.name it ≡ S.name sink → IsDue (V.receiver cfg) C.read_for releaser (S.written it) head payload → S.may_write it (record_in (Given head payload)) ≡ true },
+    ghost own: { (cfg : V.Config) → pass.config ≡ Some cfg → pass.number ≡ suc (V.ingests cfg + releaser) },
+    ghost due: { (cfg : V.Config) → pass.config ≡ Some cfg → (it : S) (reply : V.Reply) (text : List ℕ) → S.name it ≡ S.name sink → IsDue V.yields (V.is_legal cfg) (V.ingests cfg) C.read_for releaser (S.written it) reply → V.yields reply ≡ Record text → S.may_write it text ≡ true },
 }
 
 impl<V: Station, C: Clock, S: Output, G: Gate> Model for SinkWorker<V, C, S, G> {
-    ghost Value = { SinkSeen V.Config };
+    ghost Value = { SinkSeen V.Config V.Verdict V.Reply };
 
     ghost view = { λ it. record { releaser = it.releaser; name = S.name it.sink; written = S.written it.sink; faults = S.faults it.sink; pass = it.pass; end = it.end } };
 }
@@ -81,7 +79,7 @@ impl<V: Station, C: Clock + Drop, S: Output, G: Gate> SinkWorker<V, C, S, G> {
         requires turn { self.old.pass.turn ≡ turn.now }
         requires new { self.old.pass.made ≡ [] }
         requires empty { IfSome self.old.written (λ bytes. bytes ≡ []) }
-        ensures { RunsSink self.old self.new }
+        ensures { RunsSink V.yields self.old self.new }
     {
         self.end = drain(
             rt,

@@ -47,63 +47,69 @@ gave_none : (before : Option Ticking) → Gave [] before before
 gave_none None = tt
 gave_none (Some before) = (sym (append-nil before.given), refl)
 
--- items more, of which each datagram is an arrival
-arrived_more : (arrivals more : List Arrival) (taken : List Letter) (left now later : Option (List Letter)) → HaveArrived arrivals left now → now ≡ after_letters taken later → datagrams taken ≡ map bytes_of more → HaveArrived (arrivals ++ more) left later
-arrived_more arrivals more taken left now later arrived next same = (
-  arrived.0 ++ taken,
-  arrived.1 ∙ ap (after_letters arrived.0) next ∙ letters_twice later arrived.0 taken,
-  flat_map-append datagram_in arrived.0 taken ∙ ap (λ (prefix : List (List ℕ)). prefix ++ datagrams taken) arrived.2 ∙ ap (λ (back : List (List ℕ)). map bytes_of arrivals ++ back) same ∙ sym (map-append bytes_of arrivals more),
-)
+module _ {V : Type 0} where
+  -- items more, of which each datagram is an arrival
+  arrived_more : (arrivals more : List (Arrival V)) (taken : List Letter) (left now later : Option (List Letter)) → HaveArrived arrivals left now → now ≡ after_letters taken later → datagrams taken ≡ map bytes_of more → HaveArrived (arrivals ++ more) left later
+  arrived_more arrivals more taken left now later arrived next same = (
+    arrived.0 ++ taken,
+    arrived.1 ∙ ap (after_letters arrived.0) next ∙ letters_twice later arrived.0 taken,
+    flat_map-append datagram_in arrived.0 taken ∙ ap (λ (prefix : List (List ℕ)). prefix ++ datagrams taken) arrived.2 ∙ ap (λ (back : List (List ℕ)). map bytes_of arrivals ++ back) same ∙ sym (map-append bytes_of arrivals more),
+  )
 
-is_own : (ingest : ℕ) (arrival : Arrival) → arrival.ingest ≡ ingest → list_all (is_of ingest) (arrival ∷ []) ≡ true
-is_own ingest arrival same = grind (arith, eq-eqb arrival.ingest ingest same)
+  is_own : (ingest : ℕ) (arrival : Arrival V) → arrival.ingest ≡ ingest → list_all (is_of ingest) (arrival ∷ []) ≡ true
+  is_own ingest arrival same = grind (arith, eq-eqb arrival.ingest ingest same)
 
--- no arrival was made
-pub hears_none : (ingest : ℕ) (made : List Entry) (left : Option (List Letter)) (before : Option Ticking) → HearsAll ingest made made left left before before
-hears_none ingest made left before = record {
-  arrivals = [];
-  hears = record { numbered = refl; arrived = ([], letters_none left, refl); gave = gave_none before };
-  made_are = sym (append-nil made);
-}
+module _ {V R : Type 0} where
+  -- one arrival was made
+  pub hears_one : (ingest : ℕ) (bytes : List ℕ) (made now : List (Entry V R)) (before after : Option Ticking) (arrival : Arrival V) → now ≡ made ++ Arrived arrival ∷ [] → arrival.ingest ≡ ingest → arrival.bytes ≡ bytes → Ticks before after arrival.reading → HearsOne ingest bytes made now before after
+  hears_one ingest bytes made now before after arrival is numbered same ticks = record { arrival = arrival; numbered = numbered; bytes_are = same; ticks = ticks; made_is = is }
 
--- a datagram more
-pub hears_more : (ingest : ℕ) (bytes : List ℕ) (made mid now : List Entry) (left rest later : Option (List Letter)) (before then after : Option Ticking) → HearsAll ingest made mid left rest before then → rest ≡ after_letters (letters.Datagram bytes ∷ []) later → HearsOne ingest bytes mid now then after → HearsAll ingest made now left later before after
-hears_more ingest bytes made mid now left rest later before then after all next one =
-    let more : List Arrival = one.arrival ∷ [] in record {
-      arrivals = all.arrivals ++ more;
-      hears = record {
-        numbered = list_all_both (is_of ingest) all.arrivals more all.hears.numbered (is_own ingest one.arrival one.numbered);
-        arrived = arrived_more all.arrivals more (letters.Datagram bytes ∷ []) left rest later all.hears.arrived next (ap (λ (b : List ℕ). b ∷ []) (sym one.bytes_are));
-        gave = subst (λ (rs : List ℕ). Gave rs before after) (sym (map-append reading_of all.arrivals more)) (gave_more (map reading_of all.arrivals) before then after one.arrival.reading all.hears.gave one.ticks);
-      };
-      made_are = one.made_is ∙ ap (λ (es : List Entry). es ++ Arrived one.arrival ∷ []) all.made_are ∙ append_assoc made (map Arrived all.arrivals) (Arrived one.arrival ∷ []) ∙ ap (λ (es : List Entry). made ++ es) (sym (map-append Arrived all.arrivals more));
-    }
+  -- no arrival was made
+  pub hears_none : (ingest : ℕ) (made : List (Entry V R)) (left : Option (List Letter)) (before : Option Ticking) → HearsAll ingest made made left left before before
+  hears_none ingest made left before = record {
+    arrivals = [];
+    hears = record { numbered = refl; arrived = ([], letters_none left, refl); gave = gave_none before };
+    made_are = sym (append-nil made);
+  }
 
--- a quiet more
-pub hears_quiet : (ingest : ℕ) (made now : List Entry) (left rest later : Option (List Letter)) (before after : Option Ticking) → HearsAll ingest made now left rest before after → rest ≡ after_letters (letters.Quiet ∷ []) later → HearsAll ingest made now left later before after
-hears_quiet ingest made now left rest later before after all next = record {
-  arrivals = all.arrivals;
-  hears = record {
-    numbered = all.hears.numbered;
-    arrived = subst (λ (arrivals : List Arrival). HaveArrived arrivals left later) (append-nil all.arrivals) (arrived_more all.arrivals [] (letters.Quiet ∷ []) left rest later all.hears.arrived next refl);
-    gave = all.hears.gave;
-  };
-  made_are = all.made_are;
-}
+  -- a datagram more
+  pub hears_more : (ingest : ℕ) (bytes : List ℕ) (made mid now : List (Entry V R)) (left rest later : Option (List Letter)) (before then after : Option Ticking) → HearsAll ingest made mid left rest before then → rest ≡ after_letters (letters.Datagram bytes ∷ []) later → HearsOne ingest bytes mid now then after → HearsAll ingest made now left later before after
+  hears_more ingest bytes made mid now left rest later before then after all next one =
+      let more : List (Arrival V) = one.arrival ∷ [] in record {
+        arrivals = all.arrivals ++ more;
+        hears = record {
+          numbered = list_all_both (is_of ingest) all.arrivals more all.hears.numbered (is_own ingest one.arrival one.numbered);
+          arrived = arrived_more all.arrivals more (letters.Datagram bytes ∷ []) left rest later all.hears.arrived next (ap (λ (b : List ℕ). b ∷ []) (sym one.bytes_are));
+          gave = subst (λ (rs : List ℕ). Gave rs before after) (sym (map-append reading_of all.arrivals more)) (gave_more (map reading_of all.arrivals) before then after one.arrival.reading all.hears.gave one.ticks);
+        };
+        made_are = one.made_is ∙ ap (λ (es : List (Entry V R)). es ++ Arrived one.arrival ∷ []) all.made_are ∙ append_assoc made (map Arrived all.arrivals) (Arrived one.arrival ∷ []) ∙ ap (λ (es : List (Entry V R)). made ++ es) (sym (map-append Arrived all.arrivals more));
+      }
 
--- the end behind the arrivals
-pub ends_after : (ingest : ℕ) (made mid now : List Entry) (left later : Option (List Letter)) (before after : Option Ticking) → HearsAll ingest made mid left later before after → now ≡ mid ++ Ended ingest ∷ [] → Ingests ingest made now left later before after
-ends_after ingest made mid now left later before after all ended = record {
-  arrivals = all.arrivals;
-  hears = all.hears;
-  made_are = ended ∙ ap (λ (es : List Entry). es ++ Ended ingest ∷ []) all.made_are ∙ append_assoc made (map Arrived all.arrivals) (Ended ingest ∷ []);
-}
+  -- a quiet more
+  pub hears_quiet : (ingest : ℕ) (made now : List (Entry V R)) (left rest later : Option (List Letter)) (before after : Option Ticking) → HearsAll ingest made now left rest before after → rest ≡ after_letters (letters.Quiet ∷ []) later → HearsAll ingest made now left later before after
+  hears_quiet ingest made now left rest later before after all next = record {
+    arrivals = all.arrivals;
+    hears = record {
+      numbered = all.hears.numbered;
+      arrived = subst (λ (arrivals : List (Arrival V)). HaveArrived arrivals left later) (append-nil all.arrivals) (arrived_more all.arrivals [] (letters.Quiet ∷ []) left rest later all.hears.arrived next refl);
+      gave = all.hears.gave;
+    };
+    made_are = all.made_are;
+  }
 
--- an end was made, so that there is a call
-pub ingests_some : (ingest : ℕ) (made now : List Entry) (left later : Option (List Letter)) (before after : Option Ticking) → Ingests ingest made now left later before after → now ≡ [] → ⊥
-ingests_some ingest made now left later before after all none =
-    let calls = map Arrived all.arrivals ++ Ended ingest ∷ [] in
-    let size : length now ≡ length made + length calls = ap (λ (es : List Entry). length es) all.made_are ∙ length-append made calls in
-    let own : length calls ≡ length (map Arrived all.arrivals) + 1 = length-append (map Arrived all.arrivals) (Ended ingest ∷ []) in
-    let nothing : length now ≡ 0 = ap (λ (es : List Entry). length es) none in
-    omega (arith, size, own, nothing)
+  -- the end behind the arrivals
+  pub ends_after : (ingest : ℕ) (made mid now : List (Entry V R)) (left later : Option (List Letter)) (before after : Option Ticking) → HearsAll ingest made mid left later before after → now ≡ mid ++ Ended ingest ∷ [] → Ingests ingest made now left later before after
+  ends_after ingest made mid now left later before after all ended = record {
+    arrivals = all.arrivals;
+    hears = all.hears;
+    made_are = ended ∙ ap (λ (es : List (Entry V R)). es ++ Ended ingest ∷ []) all.made_are ∙ append_assoc made (map Arrived all.arrivals) (Ended ingest ∷ []);
+  }
+
+  -- an end was made, so that there is a call
+  pub ingests_some : (ingest : ℕ) (made now : List (Entry V R)) (left later : Option (List Letter)) (before after : Option Ticking) → Ingests ingest made now left later before after → now ≡ [] → ⊥
+  ingests_some ingest made now left later before after all none =
+      let calls = map Arrived all.arrivals ++ Ended ingest ∷ [] in
+      let size : length now ≡ length made + length calls = ap (λ (es : List (Entry V R)). length es) all.made_are ∙ length-append made calls in
+      let own : length calls ≡ length (map Arrived all.arrivals) + 1 = length-append (map Arrived all.arrivals) (Ended ingest ∷ []) in
+      let nothing : length now ≡ 0 = ap (λ (es : List (Entry V R)). length es) none in
+      omega (arith, size, own, nothing)

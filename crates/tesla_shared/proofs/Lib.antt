@@ -4,3 +4,4 @@ pub mod Writing
 pub mod WholeLists
 pub mod Whole
 pub mod Due
+pub mod Released

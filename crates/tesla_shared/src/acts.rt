@@ -1,15 +1,11 @@
 //! What a worker does in a turn.
 
 ghost use Rattle.std.specs.Prelude.{◌≡◌, ◌<◌, ◌≤◌, ◌^◌, ◌++◌, ◌∷◌, [], List, length, true};
-ghost use Rattle.tesla_receiver.specs.declared.history.Entry.{Entry};
 ghost use Rattle.tesla_receiver.specs.declared.history.Entry.TheVariants.{Arrived};
 
 use crate::station::Station;
-use std::marker::Brand;
-use std::sync::ledger::{Blank, Ledger};
-use tesla_base::{MOST_PAYLOAD, Steps};
+use tesla_base::MOST_PAYLOAD;
 use tesla_desk::Clock;
-use tesla_receiver::{Take, Verdict};
 use tesla_turn::Act;
 
 /// Reads the clock for a datagram of at most 2,048 bytes, and makes an arrival of it.
@@ -25,10 +21,9 @@ pub(crate) struct Hear<'a, 'b, C: Clock> {
 }
 
 /// When a datagram came, its verdict, and whether packets may wait then.
-#[derive(Drop)]
-pub(crate) struct Heard {
+pub(crate) struct Heard<A> {
     pub(crate) reading: u64,
-    pub(crate) verdict: Verdict,
+    pub(crate) verdict: A,
     pub(crate) waits: bool,
 }
 
@@ -37,15 +32,15 @@ impl<V: Station, C: Clock> Act<V> for Hear<'_, '_, C> {
     ghost use Rattle.tesla_receiver.specs.declared.history.Entry.TheVariants.{Arrived};
     ghost use Rattle.tesla_desk.specs.Clocks.{Ticks};
 
-    type Reply = Heard;
+    type Reply = Heard<V::Verdict>;
 
     ghost entry = { λ act heard. Arrived (record { ingest = act.ingest; reading = heard.reading; bytes = act.bytes.now; verdict = heard.verdict }) };
 
     ghost relation = { λ before after heard. (after.ingest ≡ before.ingest) × (after.bytes ≡ before.bytes) × (after.clock.ghost_name ≡ before.clock.ghost_name) × Ticks (C.told before.clock.now) (C.told after.clock.now) heard.reading × (C.read_for before.number before.bytes.now heard.reading ≡ true) };
 
-    fn run(&mut self, value: &mut V) -> Heard {
+    fn run(&mut self, value: &mut V) -> Heard<V::Verdict> {
         let reading = self.clock.now_for(self.bytes);
-        let verdict = judge::<V, Brand>(value, self.ingest, reading, self.bytes, Blank::new(1));
+        let verdict = value.arrive(self.ingest, reading, self.bytes);
         let waits = value.may_wait();
         Heard {
             reading,
@@ -53,26 +48,6 @@ impl<V: Station, C: Clock> Act<V> for Hear<'_, '_, C> {
             waits,
         }
     }
-}
-
-/// An arrival, whose evaluations of HMAC nobody counts.
-fn judge<V: Station, L: Ledger>(
-    value: &mut V,
-    ingest: u8,
-    reading: u64,
-    bytes: &[u8],
-    blank: Blank,
-) -> Verdict
-    requires name { blank.name ≡ L.name }
-    requires parts { blank.parts ≡ L.parts }
-    requires some { 0 < L.parts }
-    requires few { length bytes.now ≤ 2048 }
-    requires stood { (h : List Entry) × (length h < 2 ^ 63) × V.stands value.old h }
-    ensures stands { (h : List Entry) → length h < 2 ^ 63 → V.stands value.old h → V.stands value.new (h ++ Arrived (record { ingest = ingest; reading = reading; bytes = bytes.now; verdict = result }) ∷ []) }
-    ensures config { V.config value.new ≡ V.config value.old }
-{
-    let mut steps = Steps::<L>::new(blank);
-    value.arrive(ingest, reading, bytes, &mut steps)
 }
 
 /// Takes the next released packet.
@@ -85,15 +60,14 @@ pub(crate) struct TakeNext {
 impl<V: Station> Act<V> for TakeNext {
     ghost use Rattle.std.specs.Prelude.{◌≡◌};
     ghost use Rattle.tesla_receiver.specs.declared.history.Entry.TheVariants.{Taken};
-    ghost use Rattle.tesla_state.specs.Replies.{reply_shown, KeepsBehind};
 
-    type Reply = Take;
+    type Reply = V::Take;
 
-    ghost entry = { λ act reply. Taken act.releaser (reply_shown reply act.payload) };
+    ghost entry = { λ act reply. Taken act.releaser (V.shown reply act.payload) };
 
-    ghost relation = { λ before after reply. (after.releaser ≡ before.releaser) × KeepsBehind reply before.payload after.payload };
+    ghost relation = { λ before after reply. (after.releaser ≡ before.releaser) × V.keeps_behind reply before.payload after.payload };
 
-    fn run(&mut self, value: &mut V) -> Take {
+    fn run(&mut self, value: &mut V) -> V::Take {
         value.take(self.releaser, &mut self.payload)
     }
 }

@@ -3,23 +3,22 @@
 ghost use Rattle.std.specs.Prelude.{◌≡◌, ◌<◌, ◌≤◌, ◌+◌, ◌++◌, ◌∷◌, [], ℕ, List, length, take, true, false};
 ghost use Rattle.tesla_desk.specs.Faults.{HasCause};
 ghost use Rattle.tesla_desk.specs.Outside.{AppendsPrefix, with_bytes};
-ghost use Rattle.tesla_capture.specs.Release.{release_text};
+ghost use Rattle.tesla_capture.specs.Gathering.{gathered};
 ghost use Rattle.tesla_receiver.specs.declared.history.Entry.TheVariants.{Taken};
-ghost use Rattle.tesla_state.specs.Replies.{reply_shown, KeepsBehind};
 ghost use Rattle.tesla_turn.specs.Held.{OnlyCalls, Stood, left_of};
 ghost use Rattle.tesla_turn.specs.History.{calls_by};
 ghost use Rattle.tesla_turn.specs.Permitted.{OnlyPermitted};
-ghost use Rattle.tesla_base.specs.declared.release.Head.{Head};
 ghost use Rattle.tesla_shared.specs.Due.{IsTaken, PermitsTakes};
 ghost use Rattle.tesla_shared.specs.Workers.{Drains};
+ghost use Rattle.tesla_shared.specs.Taking.{TakesOne};
+ghost use Rattle.tesla_shared.specs.Yields.{GathersYield, Record};
 
 use crate::acts::TakeNext;
-use crate::station::Station;
+use crate::station::{Gathered, Station};
 use std::sync::Wait;
-use tesla_base::{Head, MOST_PAYLOAD};
+use tesla_base::MOST_PAYLOAD;
 use tesla_capture::Gatherer;
 use tesla_desk::{Gate, Output};
-use tesla_receiver::Take;
 use tesla_turn::{Pass, Permitting, Turn};
 
 /// Why a worker takes no more packets.
@@ -50,8 +49,8 @@ pub fn drain<R: Wait, V: Station + Permitting, S: Output, G: Gate>(
 ) -> SinkEnd
     requires own { pass.old.turn ≡ turn.now }
     requires takes { PermitsTakes V.permits number pass.old }
-    requires due { (it : S) (head : Head) (payload : List ℕ) → S.name it ≡ S.name sink.old → IsTaken V.config V.stands V.permits number pass.old (S.written sink.old) (S.written it) head payload → S.may_write it (release_text head payload) ≡ true }
-    ensures drains { Drains number result pass.old.made pass.new.made (S.written sink.old) (S.written sink.new) }
+    requires due { (it : S) (reply : V.Reply) (text : List ℕ) → S.name it ≡ S.name sink.old → IsTaken V.config V.stands V.permits V.yields number pass.old (S.written sink.old) (S.written it) reply → V.yields reply ≡ Record text → S.may_write it text ≡ true }
+    ensures drains { Drains V.yields number result pass.old.made pass.new.made (S.written sink.old) (S.written sink.new) }
     ensures cause { HasCause (S.faults sink.old) (S.faults sink.new) (result ≡ SinkEnd.Failed) }
     ensures spent { result ≡ SinkEnd.Spent → left_of pass.new ≡ 0 }
     ensures calls { OnlyCalls pass.old pass.new }
@@ -66,17 +65,37 @@ pub fn drain<R: Wait, V: Station + Permitting, S: Output, G: Gate>(
         if pass.spent() {
             return SinkEnd::Spent;
         }
-        match take_once(rt, &mut act, gate, turn, pass) {
-            Take::Given(head) => {
-                if !write_record(sink, &mut gatherer, &head, &act.payload) {
+        match gather_once(rt, &mut act, &mut gatherer, gate, turn, pass) {
+            Gathered::Record => {
+                if !sink.write_piece(gatherer.bytes()) {
                     return SinkEnd::Failed;
                 }
             }
-            Take::Empty => gate.rest(),
-            Take::Over => return SinkEnd::Over,
+            Gathered::Nothing => gate.rest(),
+            Gathered::Over => return SinkEnd::Over,
         }
     }
     unreachable!()
+}
+
+/// Takes once, and gathers the record of what was given.
+fn gather_once<R: Wait, V: Station + Permitting, G: Gate>(
+    rt: &R,
+    act: &mut TakeNext,
+    gatherer: &mut Gatherer,
+    gate: &mut G,
+    turn: &Turn<V>,
+    pass: &mut Pass<V>,
+) -> Gathered
+    requires own { pass.old.turn ≡ turn.now }
+    requires left { 0 < left_of pass.old }
+    requires takes { PermitsTakes V.permits act.old.releaser pass.old }
+    ensures takes { TakesOne V.config V.stands V.permits V.yields act.old.releaser pass.old pass.new (gathered gatherer.new) result }
+    ensures releaser { act.new.releaser ≡ act.old.releaser }
+{
+    let take = take_once(rt, act, gate, turn, pass);
+    gatherer.clear();
+    V::gather(take, &act.payload, gatherer)
 }
 
 /// Takes once.
@@ -87,39 +106,20 @@ fn take_once<R: Wait, V: Station + Permitting, G: Gate>(
     gate: &mut G,
     turn: &Turn<V>,
     pass: &mut Pass<V>,
-) -> Take
+) -> V::Take
     requires own { pass.old.turn ≡ turn.now }
     requires left { 0 < left_of pass.old }
     requires takes { PermitsTakes V.permits act.old.releaser pass.old }
-    ensures made { pass.new.made ≡ pass.old.made ++ Taken act.old.releaser (reply_shown result act.new.payload) ∷ [] }
+    ensures made { pass.new.made ≡ pass.old.made ++ Taken act.old.releaser (V.shown result act.new.payload) ∷ [] }
     ensures releaser { act.new.releaser ≡ act.old.releaser }
-    ensures behind { KeepsBehind result act.old.payload act.new.payload }
+    ensures behind { V.keeps_behind result act.old.payload act.new.payload }
     ensures calls { OnlyCalls pass.old pass.new }
     ensures own { calls_by pass.new.number pass.new.seen ≡ pass.new.made }
     ensures stood { Stood V.config V.stands pass.new }
     ensures permitted { OnlyPermitted V.permits pass.new }
 {
     gate.before();
-    let reply = turn.take_turn(rt, pass, act);
+    let take = turn.take_turn(rt, pass, act);
     gate.after();
-    reply
-}
-
-/// Writes the record of a packet, whose payload is at the front of these bytes, in one piece.
-fn write_record<S: Output>(
-    sink: &mut S,
-    gatherer: &mut Gatherer,
-    head: &Head,
-    payload: &[u8; MOST_PAYLOAD],
-) -> bool
-    requires limit { head.now.length ≤ 1200 }
-    requires permitted { S.may_write sink.old (release_text head.now (take head.now.length payload.now)) ≡ true }
-    ensures all { result ≡ true → S.written sink.new ≡ with_bytes (S.written sink.old) (release_text head.now (take head.now.length payload.now)) }
-    ensures prefix { AppendsPrefix (S.written sink.old) (S.written sink.new) (release_text head.now (take head.now.length payload.now)) }
-    ensures cause { HasCause (S.faults sink.old) (S.faults sink.new) (result ≡ false) }
-    ensures name { S.name sink.new ≡ S.name sink.old }
-{
-    gatherer.clear();
-    gatherer.add_release(head, &payload[..usize::from(head.length)]);
-    sink.write_piece(gatherer.bytes())
+    take
 }

@@ -9,7 +9,7 @@ ghost use Rattle.tesla_desk.specs.Clocks.{Ticks};
 ghost use Rattle.tesla_shared.specs.Due.{PermitsArrivals, PermitsEnd};
 ghost use Rattle.tesla_shared.specs.Workers.{HearsOne, HearsAll, Ingests};
 
-use crate::acts::{EndIngest, Hear};
+use crate::acts::{EndIngest, Hear, Heard};
 use crate::station::Station;
 use std::sync::Wait;
 use tesla_base::MOST_DATAGRAM;
@@ -118,7 +118,6 @@ struct Came<'a> {
 }
 
 /// Makes an arrival of a datagram of at most 2,048 bytes.
-#[tactic(auto, using(crate::proofs::Passing::one_call))]
 fn hear_once<R: Wait, V: Station + Permitting, C: Clock, G: Gate>(
     rt: &R,
     came: &Came<'_>,
@@ -131,23 +130,50 @@ fn hear_once<R: Wait, V: Station + Permitting, C: Clock, G: Gate>(
     requires own { pass.old.turn ≡ turn.now }
     requires left { 0 < left_of pass.old }
     requires asked { C.may_ask came.now.number came.now.bytes.now ≡ true }
-    requires permitted { (cfg : V.Config) (arrival : Arrival) → pass.old.config ≡ Some cfg → arrival.ingest ≡ came.now.ingest → C.read_for came.now.number arrival.bytes arrival.reading ≡ true → V.permits cfg pass.old.number pass.old.made (Arrived arrival) }
+    requires permitted { (cfg : V.Config) (arrival : Arrival V.Verdict) → pass.old.config ≡ Some cfg → arrival.ingest ≡ came.now.ingest → C.read_for came.now.number arrival.bytes arrival.reading ≡ true → V.permits cfg pass.old.number pass.old.made (Arrived arrival) }
     ensures hears { HearsOne came.now.ingest came.now.bytes.now pass.old.made pass.new.made (C.told clock.old) (C.told clock.new) }
     ensures left { left_of pass.new + 1 ≡ left_of pass.old }
     ensures calls { OnlyCalls pass.old pass.new }
 {
     gate.before();
+    let waits = hear_in_turn(rt, came, clock, turn, pass);
+    if waits {
+        gate.released();
+    }
+    gate.after();
+}
+
+/// Makes an arrival of a datagram in a turn, and tells whether packets may wait then.
+#[tactic(auto, using(crate::proofs::Passing::one_call, crate::proofs::Hearing::hears_one))]
+fn hear_in_turn<R: Wait, V: Station + Permitting, C: Clock>(
+    rt: &R,
+    came: &Came<'_>,
+    clock: &mut C,
+    turn: &Turn<V>,
+    pass: &mut Pass<V>,
+) -> bool
+    requires few { length came.now.bytes.now ≤ 2048 }
+    requires own { pass.old.turn ≡ turn.now }
+    requires left { 0 < left_of pass.old }
+    requires asked { C.may_ask came.now.number came.now.bytes.now ≡ true }
+    requires permitted { (cfg : V.Config) (arrival : Arrival V.Verdict) → pass.old.config ≡ Some cfg → arrival.ingest ≡ came.now.ingest → C.read_for came.now.number arrival.bytes arrival.reading ≡ true → V.permits cfg pass.old.number pass.old.made (Arrived arrival) }
+    ensures hears { HearsOne came.now.ingest came.now.bytes.now pass.old.made pass.new.made (C.told clock.old) (C.told clock.new) }
+    ensures left { left_of pass.new + 1 ≡ left_of pass.old }
+    ensures calls { OnlyCalls pass.old pass.new }
+{
     let mut act = Hear {
         ingest: came.ingest,
         number: came.number,
         bytes: came.bytes,
         clock,
     };
-    let heard = turn.take_turn(rt, pass, &mut act);
-    if heard.waits {
-        gate.released();
-    }
-    gate.after();
+    let Heard {
+        reading: _,
+        verdict,
+        waits,
+    } = turn.take_turn(rt, pass, &mut act);
+    V::let_go(verdict);
+    waits
 }
 
 /// Ends the ingest.

@@ -6,10 +6,12 @@ mod acts;
 mod draining;
 mod ingesting;
 pub mod laws;
+mod receiving;
 mod station;
 mod witnessed;
 
 pub use draining::{SinkEnd, drain};
 pub use ingesting::{LinkEnd, ingest};
-pub use station::Station;
+pub use receiving::Receiving;
+pub use station::{Gathered, Station};
 pub use witnessed::Witnessed;

@@ -2,12 +2,13 @@
 
 ghost use Rattle.std.specs.Prelude.{◌≡◌};
 
-use crate::station::Station;
+use crate::receiving::Receiving;
+use crate::station::{Gathered, Station};
 use std::marker::PhantomData;
-use std::sync::ledger::Ledger;
-use tesla_base::{Chronicle, MOST_PAYLOAD, Steps};
+use tesla_base::{Chronicle, MOST_PAYLOAD};
+use tesla_capture::Gatherer;
 use tesla_desk::Clock;
-use tesla_receiver::{Entry, Report, Take, Verdict};
+use tesla_receiver::{Entry, Report};
 use tesla_turn::Permitting;
 
 /// A station whose calls are permitted to its workers alone: each to the pass of its worker, and an arrival of each ingest
@@ -39,7 +40,7 @@ impl<V: Station, C: Clock> Witnessed<V, C> {
 }
 
 impl<V: Station, C: Clock> Chronicle for Witnessed<V, C> {
-    type Entry = Entry;
+    type Entry = Entry<V::Verdict, V::Reply>;
 
     type Config = V::Config;
 
@@ -51,26 +52,42 @@ impl<V: Station, C: Clock> Chronicle for Witnessed<V, C> {
 impl<V: Station, C: Clock> Permitting for Witnessed<V, C> {
     ghost use Rattle.tesla_shared.specs.Due.{IsOfWorker};
 
-    ghost permits = { λ cfg. IsOfWorker C.read_for (V.receiver cfg).ingests };
+    ghost permits = { λ cfg. IsOfWorker C.read_for (V.ingests cfg) };
 }
 
 impl<V: Station, C: Clock + Drop> Station for Witnessed<V, C> {
-    ghost receiver = { V.receiver };
+    type Verdict = V::Verdict;
+
+    type Reply = V::Reply;
+
+    type Take = V::Take;
+
+    ghost ingests = { V.ingests };
+
+    ghost is_legal = { V.is_legal };
+
+    ghost shown = { V.shown };
+
+    ghost keeps_behind = { V.keeps_behind };
+
+    ghost yields = { V.yields };
 
     ghost legal = { λ it h stood. V.legal it.station h stood };
 
-    fn arrive<L: Ledger>(
-        &mut self,
-        ingest: u8,
-        reading: u64,
-        bytes: &[u8],
-        steps: &mut Steps<L>,
-    ) -> Verdict {
-        self.station.arrive(ingest, reading, bytes, steps)
+    fn arrive(&mut self, ingest: u8, reading: u64, bytes: &[u8]) -> V::Verdict {
+        self.station.arrive(ingest, reading, bytes)
     }
 
-    fn take(&mut self, releaser: u8, into: &mut [u8; MOST_PAYLOAD]) -> Take {
+    fn take(&mut self, releaser: u8, into: &mut [u8; MOST_PAYLOAD]) -> V::Take {
         self.station.take(releaser, into)
+    }
+
+    fn gather(take: V::Take, payload: &[u8; MOST_PAYLOAD], gatherer: &mut Gatherer) -> Gathered {
+        V::gather(take, payload, gatherer)
+    }
+
+    fn let_go(verdict: V::Verdict) {
+        V::let_go(verdict);
     }
 
     fn end(&mut self, ingest: u8) {
@@ -84,6 +101,20 @@ impl<V: Station, C: Clock + Drop> Station for Witnessed<V, C> {
     fn calls(&self) -> u64 {
         self.station.calls()
     }
+}
+
+impl<V: Receiving, C: Clock + Drop> Receiving for Witnessed<V, C> {
+    ghost receiver = { V.receiver };
+
+    ghost ingests_are = { V.ingests_are };
+
+    ghost legal_is = { V.legal_is };
+
+    ghost shown_is = { V.shown_is };
+
+    ghost keeps_is = { V.keeps_is };
+
+    ghost yields_are = { V.yields_are };
 
     fn report(&self) -> Report {
         self.station.report()

@@ -14,8 +14,7 @@ use Rattle.tesla_fitting.specs.declared.config.Config.{Config}
 use Rattle.tesla_receiver.specs.History.{Arrives, Ends, Event, Takes, arrivals_in, entry_of, gives, given_in, has_end, reply_to, reply_with}
 use Rattle.tesla_receiver.specs.Keys.{new_keys}
 use Rattle.tesla_receiver.specs.Packets.{batch, candidates, packet_of, proves, release_of, release_on, released}
-use Rattle.tesla_receiver.specs.declared.history.Arrival.{Arrival}
-use Rattle.tesla_receiver.specs.declared.history.Entry.{Entry}
+use Rattle.tesla_receiver.specs.Entries.{Arrival, Entry}
 use Rattle.tesla_receiver.specs.declared.history.Entry.TheVariants.{Arrived, Taken, Ended}
 use Rattle.tesla_receiver.specs.declared.packet.Packet.{Packet}
 use Rattle.tesla_receiver.proofs.ArrivalOrders.{firsts_pass}

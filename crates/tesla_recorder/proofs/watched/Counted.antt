@@ -8,8 +8,7 @@ use Rattle.std.proofs.lemmas.List.Sums.{count_by-le-length, sum_by-append}
 use Rattle.tesla_counters.specs.Counts.{CountersId, NoneFalls}
 use Rattle.tesla_receiver.specs.History.{arrival_in, arrivals_in, given_in, gives}
 use Rattle.tesla_receiver.specs.Report.{count_of, report_of}
-use Rattle.tesla_receiver.specs.declared.history.Arrival.{Arrival}
-use Rattle.tesla_receiver.specs.declared.history.Entry.{Entry}
+use Rattle.tesla_receiver.specs.Entries.{Arrival, Entry}
 use Rattle.tesla_state.specs.Counting.{line_of}
 use Rattle.tesla_state.specs.declared.report.Report.{Report}
 use Rattle.tesla_recorder.specs.watched.Chains.{chain_in, is_chain, released_on}

@@ -1,6 +1,6 @@
 -- A station whose counts are read while it works.
 use Rattle.std.specs.Prelude.{◌≡◌, ℕ, List, [], ◌∷◌, ◌++◌}
-use Rattle.tesla_receiver.specs.declared.history.Entry.{Entry}
+use Rattle.tesla_receiver.specs.Entries.{Entry}
 use Rattle.tesla_receiver.specs.Report.{report_of}
 use Rattle.tesla_state.specs.declared.report.Report.{Report}
 use Rattle.tesla_counters.specs.Counts.{CountersId}

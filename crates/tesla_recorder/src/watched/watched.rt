@@ -2,7 +2,7 @@
 
 ghost use Rattle.std.specs.Prelude.{◌≡◌, ◌+◌, ◌<◌, ◌^◌, ◌++◌, ◌∷◌, [], ℕ, List, IfOk, cond, length, map, if◌then◌else◌, nat_lt, slice_index_or, slice_set};
 ghost use Rattle.std.specs.List.{range_with_len};
-ghost use Rattle.tesla_receiver.specs.declared.history.Entry.{Entry};
+ghost use Rattle.tesla_receiver.specs.Entries.{Entry};
 ghost use Rattle.tesla_receiver.specs.declared.history.Entry.TheVariants.{Taken};
 ghost use Rattle.tesla_state.specs.Replies.{reply_shown};
 ghost use Rattle.tesla_counters.specs.Counts.{NoneFalls, no_counts};
@@ -11,11 +11,11 @@ ghost use Rattle.tesla_recorder.specs.watched.Watched.{WatchedStands, counts_in,
 
 use std::alloc::Global;
 use std::marker::Model;
-use std::sync::ledger::Ledger;
-use tesla_base::{Chronicle, MOST_PAYLOAD, NoMemory, Steps};
+use tesla_base::{Chronicle, MOST_PAYLOAD, NoMemory};
+use tesla_capture::Gatherer;
 use tesla_counters::{Counters, Reader, Writer};
-use tesla_receiver::{Config, Entry, Receiver, Report, Take, Verdict};
-use tesla_shared::Station;
+use tesla_receiver::{Config, Receiver, Reply, Report, Take, Verdict};
+use tesla_shared::{Gathered, Receiving, Station};
 
 /// How many counts of a report there are, but for its arrivals.
 pub const REPORT_COUNTS: usize = 11;
@@ -50,10 +50,10 @@ impl<V> Model for Watched<V> {
     ghost view = { λ w. record { station = w.station; counters = w.counts.counters; counts = w.counts.counts } };
 }
 
-impl<V: Station> Chronicle for Watched<V> {
+impl<V: Receiving> Chronicle for Watched<V> {
     ghost use Rattle.tesla_recorder.specs.watched.Watched.{WatchedStands};
 
-    type Entry = Entry;
+    type Entry = tesla_receiver::Entry;
 
     type Config = WatchedConfig<V::Config>;
 
@@ -125,7 +125,7 @@ fn counts_after(report: &Report, before: &[u64; COUNTS], chain: Option<u8>) -> [
     }
 }
 
-impl<V: Station> Watched<V> {
+impl<V: Receiving> Watched<V> {
     /// Counts from now on what this station answers, which has had no event. The reader has the counts as they stand at
     /// any time. `NoMemory`: there wasn't enough.
     pub fn open(alloc: Global, station: V) -> Result<(Watched<V>, Reader<COUNTS>), NoMemory>
@@ -168,19 +168,27 @@ impl<V: Station> Watched<V> {
     }
 }
 
-impl<V: Station> Station for Watched<V> {
-    ghost receiver = { λ config. V.receiver config.config };
+impl<V: Receiving> Station for Watched<V> {
+    type Verdict = Verdict;
+
+    type Reply = Reply;
+
+    type Take = Take;
+
+    ghost ingests = { λ config. V.ingests config.config };
+
+    ghost is_legal = { λ config. V.is_legal config.config };
+
+    ghost shown = { V.shown };
+
+    ghost keeps_behind = { V.keeps_behind };
+
+    ghost yields = { V.yields };
 
     ghost legal = { λ watched h stood. V.legal watched.station h stood.stood };
 
-    fn arrive<L: Ledger>(
-        &mut self,
-        ingest: u8,
-        reading: u64,
-        bytes: &[u8],
-        steps: &mut Steps<L>,
-    ) -> Verdict {
-        let verdict = self.station.arrive(ingest, reading, bytes, steps);
+    fn arrive(&mut self, ingest: u8, reading: u64, bytes: &[u8]) -> Verdict {
+        let verdict = self.station.arrive(ingest, reading, bytes);
         self.count(None);
         verdict
     }
@@ -189,6 +197,14 @@ impl<V: Station> Station for Watched<V> {
         let reply = self.station.take(releaser, into);
         self.count(chain_of(reply));
         reply
+    }
+
+    fn gather(take: Take, payload: &[u8; MOST_PAYLOAD], gatherer: &mut Gatherer) -> Gathered {
+        V::gather(take, payload, gatherer)
+    }
+
+    fn let_go(verdict: Verdict) {
+        V::let_go(verdict);
     }
 
     fn end(&mut self, ingest: u8) {
@@ -203,6 +219,20 @@ impl<V: Station> Station for Watched<V> {
     fn calls(&self) -> u64 {
         self.station.calls()
     }
+}
+
+impl<V: Receiving> Receiving for Watched<V> {
+    ghost receiver = { λ config. V.receiver config.config };
+
+    ghost ingests_are = { λ config. V.ingests_are config.config };
+
+    ghost legal_is = { λ config. V.legal_is config.config };
+
+    ghost shown_is = { V.shown_is };
+
+    ghost keeps_is = { V.keeps_is };
+
+    ghost yields_are = { V.yields_are };
 
     fn report(&self) -> Report {
         self.station.report()

@@ -4,7 +4,7 @@ use Rattle.tesla_desk.specs.Faults.{HasCause}
 use Rattle.tesla_desk.specs.Outside.{AppendsPrefix, Holds, page_of, with_bytes}
 use Rattle.tesla_desk.proofs.Counts.{cause_as}
 use Rattle.tesla_desk.proofs.Told.{first_written}
-use Rattle.tesla_receiver.specs.declared.history.Entry.{Entry}
+use Rattle.tesla_receiver.specs.Entries.{Entry}
 use Rattle.tesla_run_receive.proofs.Heard.{fails_not}
 use Rattle.tesla_run_receive.specs.record.Record.{HoldsTail, tail_of}
 

@@ -1,7 +1,7 @@
 -- The last entries of a history as they are written to TAIL.
 use Rattle.std.proofs.Common.{◌≡◌, ◌∙◌, ℕ, ◌-◌, List, ◌++◌, length, flat_map, ap, arith}
 use Rattle.std.proofs.lemmas.List.{length-drop, length-map}
-use Rattle.tesla_receiver.specs.declared.history.Entry.{Entry}
+use Rattle.tesla_receiver.specs.Entries.{Entry}
 use Rattle.tesla_recorder.specs.Recorded.{RecordedState, RecordedStands, last_entries}
 use Rattle.tesla_recorder.proofs.LastEntries.{all_spelled}
 use Rattle.tesla_trace.specs.Trace.{entry_text, tail_head}

@@ -1,20 +1,23 @@
 -- What the counts of a history make.
-use Rattle.std.proofs.Common.{◌≡◌, ◌∙◌, ◌==◌, inl, inr, ℕ, zero, suc, ◌+◌, ◌≤◌, List, [], ◌∷◌, cond, get_or, length, map, drop, take, refl, ap, arith, get_or-drop, get_or-take, length-drop, length-take-le}
+use Rattle.std.proofs.Common.{◌≡◌, ◌∙◌, ◌==◌, inl, inr, ℕ, zero, suc, ◌+◌, ◌≤◌, List, [], ◌∷◌, cond, get_or, length, map, drop, take, refl, ap, arith, get_or-drop, get_or-take, length-drop, length-take-le, sym}
+use denote.Ref.{Bor}
+use Rattle.std.proofs.lemmas.List.{length-map}
 use Rattle.std.specs.List.{range_with_len}
 use Rattle.std.proofs.lemmas.Bool.{cases_lt}
 use Rattle.std.proofs.lemmas.List.Sums.{sum_by-append}
 use Rattle.tesla_counters.specs.Counts.{NoneFalls}
 use Rattle.tesla_fitting.specs.declared.verdict.Verdict.{Verdict}
 use Rattle.tesla_fitting.specs.declared.verdict.Verdict.TheVariants.{Malformed, Foreign, Misfit, Future, BadKey, Late, Repeat, Full, Kept, Keys}
+use Rattle.tesla_front.specs.Parts.{texts_of}
 use Rattle.tesla_receiver.specs.History.{arrivals_in, given_in}
 use Rattle.tesla_receiver.specs.Report.{count_of, report_of}
-use Rattle.tesla_receiver.specs.declared.history.Arrival.{Arrival}
-use Rattle.tesla_receiver.specs.declared.history.Entry.{Entry}
+use Rattle.tesla_receiver.specs.Entries.{Arrival, Entry}
 use Rattle.tesla_state.specs.Counting.{line_of}
 use Rattle.tesla_state.specs.declared.report.Report.{Report}
 use Rattle.tesla_recorder.specs.watched.Chains.{released_by_chain, released_on}
 use Rattle.tesla_recorder.specs.watched.Watched.{counts_of}
-use Rattle.tesla_run_receive.specs.watch.Lines.{chains_at, report_at}
+use Rattle.tesla_run_receive.specs.watch.Lines.{Counted, chains_at, counted_at, others_at, report_at}
+use Rattle.tesla_run_receive.specs.watch.Watch.{counted_of}
 
 -- 1 where the verdict has this line, and else 0
 abbrev hit : ℕ → Verdict → ℕ
@@ -56,7 +59,7 @@ arrivals_add (arrival ∷ arrivals) =
     omega (arith, c1, c2, c3, c4, c5, c6, c7, c8, c9, c10, one, rest)
 
 -- the counts of a history make its report
-pub report_whole : (history : List Entry) → report_at (counts_of history) ≡ report_of history
+report_whole : (history : List Entry) → report_at (counts_of history) ≡ report_of history
 report_whole history =
     let arrivals = arrivals_in history in
     ap
@@ -82,12 +85,27 @@ taken_range f a (suc n) zero few = absurd (omega arith)
 taken_range f a (suc n) (suc m) few = ap (λ (xs : List ℕ). f a ∷ xs) (taken_range f (a + 1) n m (omega arith))
 
 -- and its packets by chain
-pub chains_whole : (chains : ℕ) (history : List Entry) → chains ≤ 8 → chains_at chains (counts_of history) ≡ released_by_chain chains history
+chains_whole : (chains : ℕ) (history : List Entry) → chains ≤ 8 → chains_at chains (counts_of history) ≡ released_by_chain chains history
 chains_whole chains history few = taken_range (λ chain. released_on chain history) 0 chains 8 few
 
+-- and there is nothing else
+pub counted_whole : (chains : ℕ) (history : List Entry) → chains ≤ 8 → counted_at chains (counts_of history) ≡ counted_of chains history
+counted_whole chains history few =
+    let counts : List ℕ = counts_of history in
+    ap (λ (r : Report). let it : Counted = record { report = r; chains = chains_at chains counts; others = [] } in it) (report_whole history)
+    ∙ ap (λ (cs : List ℕ). let it : Counted = record { report = report_of history; chains = cs; others = [] } in it) (chains_whole chains history few)
+
 -- there are as many of these as chains
-pub chains_counted : (chains : ℕ) (counts : List ℕ) → chains ≤ 8 → length counts ≡ 19 → length (chains_at chains counts) ≡ chains
-chains_counted chains counts few size = length-take-le chains (drop 11 counts) (let rest = length-drop 11 counts in omega (arith, few, size, rest))
+pub chains_counted : (chains others : ℕ) (counts : List ℕ) → chains ≤ 8 → length counts ≡ 19 + others → length (chains_at chains counts) ≡ chains
+chains_counted chains others counts few size = length-take-le chains (drop 11 counts) (let rest = length-drop 11 counts in omega (arith, few, size, rest))
+
+-- and as many others as names
+pub others_counted : (others : ℕ) (counts : List ℕ) → length counts ≡ 19 + others → length (others_at counts) ≡ others
+others_counted others counts size = let rest = length-drop 19 counts in omega (arith, size, rest)
+
+-- the same, told the names as they stand in code
+pub sized : (names : List (Bor (List ℕ))) (counts : List ℕ) → length counts ≡ 19 + length names → length counts ≡ 19 + length (texts_of names)
+sized names counts size = size ∙ ap (λ (n : ℕ). 19 + n) (sym (length-map names (λ (name : Bor (List ℕ)). name.now)))
 
 past_taken : (n : ℕ) (xs : List ℕ) (k : ℕ) → n ≤ k → get_or (take n xs) k 0 ≡ 0
 past_taken zero xs k past = refl
@@ -105,3 +123,10 @@ chains_fall chains before now falls k = elim (cases_lt k chains) [
       omega (arith, first, second, rises))
   | inr past ↦ (let first = past_taken chains (drop 11 before) k past in omega (arith, first))
 ]
+
+pub others_fall : (before now : List ℕ) → NoneFalls before now → NoneFalls (others_at before) (others_at now)
+others_fall before now falls k =
+    let first = get_or-drop 19 before k 0 in
+    let second = get_or-drop 19 now k 0 in
+    let rises = falls (19 + k) in
+    omega (arith, first, second, rises)

@@ -5,7 +5,7 @@ use Rattle.tesla_desk.specs.Outside.{Told}
 use Rattle.tesla_fitting.specs.declared.config.Config.{Config}
 use Rattle.tesla_front.specs.Setup.{IsSetupIn}
 use Rattle.tesla_receiver.specs.History.{IsLegal}
-use Rattle.tesla_receiver.specs.declared.history.Entry.{Entry}
+use Rattle.tesla_receiver.specs.Entries.{Entry}
 use Rattle.tesla_shared.specs.Due.{IsOfWorker}
 use Rattle.tesla_turn.specs.History.{entries}
 use Rattle.tesla_turn.specs.Permitted.{ArePermitted}

@@ -4,11 +4,14 @@ use Rattle.tesla_desk.specs.Live.{Live}
 use Rattle.tesla_desk.specs.Outside.{Page, Untold, Absent, Holds}
 use Rattle.tesla_front.specs.Command.{Command}
 use Rattle.tesla_front.specs.Files.{IsPrefix}
-use Rattle.tesla_receiver.specs.declared.history.Entry.{Entry}
+use Rattle.tesla_fitting.specs.declared.verdict.Verdict.{Verdict}
+use Rattle.tesla_receiver.specs.Entries.{Entry}
 use Rattle.tesla_recorder.specs.Recorded.{last_entries}
+use Rattle.tesla_state.specs.declared.replies.Reply.{Reply}
 use Rattle.tesla_trace.specs.Trace.{tail_text}
 use Rattle.tesla_turn.specs.Held.{Ended}
 use Rattle.tesla_run_receive.specs.Output.{WithOutput, with_output}
+use Rattle.tesla_run_receive.specs.Receive.{of_receiver}
 use Rattle.tesla_run_receive.specs.record.Arguments.{IsRecord}
 
 -- the spelling of the last entries of a history, at most so many: behind the number of the first of them
@@ -27,8 +30,9 @@ abbrev pub IsNewTail : ℕ → List ℕ → ℕ → Option (List ℕ) → ℕ �
 IsNewTail keep name kept written faults named = (kept ≡ keep) × IfSome written (λ bytes. bytes ≡ []) × (faults ≡ 0) × (named ≡ name)
 
 -- the form of receive with one output more: the output is TAIL
-abbrev pub form_of_record : WithOutput
+abbrev pub form_of_record : WithOutput Verdict Reply
 form_of_record = record {
+  kind = of_receiver;
   IsForm = IsRecord;
   Holds = λ arguments setup. HoldsTail arguments.number;
 }

@@ -1,9 +1,31 @@
 -- The lines of STATUS: their text, and how one follows another.
 use Rattle.std.specs.Prelude.{◌≡◌, ℕ, ◌+◌, ◌≤◌, Bool, true, false, List, [], ◌∷◌, ◌++◌, take, drop, length, slice_index_or, codes}
+use Rattle.std.specs.List.{All}
+use denote.Ref.{Bor}
 use Rattle.tesla_counters.specs.Counts.{NoneFalls}
+use Rattle.tesla_front.specs.Parts.{texts_of}
 use Rattle.tesla_state.specs.declared.report.Report.{Report}
 use Rattle.tesla_status.specs.Lines.{number_text}
 use Rattle.tesla_run_receive.specs.declared.watch.line.LineFacts.{LineFacts}
+
+-- ---- columns
+
+-- for how many chains a line has a count, and the names of its further numbers
+pub record Columns : Type 0 where
+  pub chains : ℕ
+  pub names : List (List ℕ)
+
+-- those of so many chains, and of these names
+abbrev pub columns_of : ℕ → List (Bor (List ℕ)) → Columns
+columns_of chains names = record { chains = chains; names = texts_of names }
+
+-- those of a line with no further number
+abbrev pub chain_columns : ℕ → Columns
+chain_columns chains = record { chains = chains; names = [] }
+
+-- there are few names, and each is short
+abbrev pub AreShort : List (Bor (List ℕ)) → Type 0
+AreShort names = (length names ≤ 5) × All (λ name. length name.now ≤ 12) names
 
 -- ---- counts
 
@@ -38,18 +60,23 @@ report_at counts =
 abbrev pub chains_at : ℕ → List ℕ → List ℕ
 chains_at chains counts = take chains (drop 11 counts)
 
--- what is counted of a history: the numbers of a report, and how many packets were released on each chain
+-- the further numbers: they stand behind those of the eight chains that a setup has at most
+abbrev pub others_at : List ℕ → List ℕ
+others_at counts = drop 19 counts
+
+-- what is counted of a history: the numbers of a report, how many packets were released on each chain, and further numbers
 pub record Counted : Type 0 where
   pub report : Report
   pub chains : List ℕ
+  pub others : List ℕ
 
 -- that of these counts, of a setup with so many chains
 abbrev pub counted_at : ℕ → List ℕ → Counted
-counted_at chains counts = record { report = report_at counts; chains = chains_at chains counts }
+counted_at chains counts = record { report = report_at counts; chains = chains_at chains counts; others = others_at counts }
 
 -- nothing was counted
 abbrev pub none_counted : Counted
-none_counted = record { report = report_at []; chains = [] }
+none_counted = record { report = report_at []; chains = []; others = [] }
 
 -- no number falls from what was counted to what was counted later
 pub record NoneFall (before now : Counted) : Type 0 where
@@ -66,6 +93,7 @@ pub record NoneFall (before now : Counted) : Type 0 where
   pub keys : before.report.keys ≤ now.report.keys
   pub given : before.report.given ≤ now.report.given
   pub chains : NoneFalls before.chains now.chains
+  pub others : NoneFalls before.others now.others
 
 -- the arrivals are the sum of the ten verdicts
 abbrev pub AddsUp : Report → Type 0
@@ -103,14 +131,20 @@ unfoldable pub chains_text : ℕ → List ℕ → List ℕ
 chains_text chain [] = []
 chains_text chain (count ∷ counts) = number_text (codes " chain") chain ++ number_text (codes "=") count ++ chains_text (chain + 1) counts
 
--- the text of a line, with its LF
-unfoldable pub line_text : StatusLine → List ℕ
-line_text line =
-    number_text (first_word line.is_last) line.time ++ number_text (codes " arrivals=") line.counted.report.arrivals ++ counts_text line.counted.report ++ chains_text 0 line.counted.chains
-    ++ number_text (codes " held=") line.held_readings ++ number_text (codes " failedsinks=") line.failed_sinks ++ codes "\n"
+-- the further numbers, each behind its name
+unfoldable pub others_text : List (List ℕ) → List ℕ → List ℕ
+others_text [] counts = []
+others_text (name ∷ names) [] = []
+others_text (name ∷ names) (count ∷ counts) = codes " " ++ name ++ number_text (codes "=") count ++ others_text names counts
 
--- These lines follow on what was counted: the arrivals of each are the sum of its verdicts, it has a count for each of so many chains, no count falls from line to line, and behind a last one there is none
-abbrev pub Follow : ℕ → Counted → List StatusLine → Type 0
-Follow chains before [] = Unit {0}
-Follow chains before (line ∷ lines) =
-    AddsUp line.counted.report × (length line.counted.chains ≡ chains) × NoneFall before line.counted × (line.is_last ≡ true → lines ≡ []) × Follow chains line.counted lines
+-- the text of a line whose further numbers have these names, with its LF
+unfoldable pub line_text : List (List ℕ) → StatusLine → List ℕ
+line_text names line =
+    number_text (first_word line.is_last) line.time ++ number_text (codes " arrivals=") line.counted.report.arrivals ++ counts_text line.counted.report ++ chains_text 0 line.counted.chains
+    ++ number_text (codes " held=") line.held_readings ++ number_text (codes " failedsinks=") line.failed_sinks ++ others_text names line.counted.others ++ codes "\n"
+
+-- These lines follow on what was counted: the arrivals of each are the sum of its verdicts, it has a count for each chain and for each name, no count falls from line to line, and behind a last one there is none
+abbrev pub Follow : Columns → Counted → List StatusLine → Type 0
+Follow columns before [] = Unit {0}
+Follow columns before (line ∷ lines) =
+    AddsUp line.counted.report × (length line.counted.chains ≡ columns.chains) × (length line.counted.others ≡ length columns.names) × NoneFall before line.counted × (line.is_last ≡ true → lines ≡ []) × Follow columns line.counted lines

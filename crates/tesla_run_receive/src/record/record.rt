@@ -8,9 +8,10 @@ ghost use Rattle.tesla_receiver.specs.Stands.{Stands};
 ghost use Rattle.tesla_recorder.specs.declared.recorded.RecordedConfig.{RecordedConfig};
 ghost use Rattle.tesla_run_receive.specs.Arguments.{AreFew, workers_wanted};
 ghost use Rattle.tesla_run_receive.specs.OutputArguments.{OutputArguments, arguments_of};
+ghost use Rattle.tesla_shared.specs.Receiving.{IsReplyDue, yield_of};
 ghost use Rattle.tesla_session.specs.Allowed.{MayAsk, MayAskLinks, MayReleaseAll};
 ghost use Rattle.tesla_run_receive.specs.Allowed.{MayWriteReleased};
-ghost use Rattle.tesla_run_receive.specs.Running.{RunsStation};
+ghost use Rattle.tesla_run_receive.specs.Running.{RunsStation, receiving};
 ghost use Rattle.tesla_run_receive.specs.record.Allowed.{MayWriteTail, MayWriteTailOf};
 ghost use Rattle.tesla_run_receive.specs.record.Arguments.{IsRecord};
 ghost use Rattle.tesla_run_receive.specs.record.Record.{HoldsTail, recording};
@@ -23,7 +24,7 @@ use std::sync::Wait;
 use std::thread::Threads;
 use tesla_desk::Environment;
 use tesla_front::{Fault, LiveRun, Outcome, Stop, outcome_of, without_history};
-use tesla_receiver::Receiver;
+use tesla_receiver::{Entry, Receiver, Reply, Take, Verdict};
 use tesla_recorder::Recorded;
 use tesla_turn::Last;
 
@@ -91,10 +92,14 @@ fn run_recorded<R: Threads + Wait + Sync, D: Environment>(
     requires ingests { receiver.config.ingests ≡ length (arguments_of arguments.now).receive.links }
     requires asked { MayAsk D.Wire.brought D.Time.may_ask }
     requires any_link { MayAskLinks D.Wire.may_ask }
-    requires released { MayReleaseAll D.Pieces.name D.Pieces.written D.Pieces.may_write D.Time.read_for receiver.config 0 (arguments_of arguments.now).receive.sinks }
+    requires released { MayReleaseAll D.Pieces.name D.Pieces.written D.Pieces.may_write yield_of (IsReplyDue receiver.config D.Time.read_for) 0 (arguments_of arguments.now).receive.sinks }
     requires output { MayWriteTailOf D.Pieces.name D.Pieces.written D.Pieces.may_write D.Time.read_for receiver.config arguments.now.number arguments.now.output.now }
-    ensures { (cfg : RecordedConfig Config) × RunsStation (HoldsTail arguments.now.number) (Some arguments.now.output.now) receiver.config (workers_wanted (arguments_of arguments.now).receive) cfg (D.told desk.old) (D.told desk.new) result.1 (result_view result.0) }
+    ensures { (cfg : RecordedConfig Config) × RunsStation (receiving receiver.config) (HoldsTail arguments.now.number) (Some arguments.now.output.now) (workers_wanted (arguments_of arguments.now).receive) cfg (D.told desk.old) (D.told desk.new) result.1 (result_view result.0) }
 {
+    // The borrow checker knows the types of a station's answers where they are named.
+    let _answers: (Option<Verdict>, Option<Take>, Option<Reply>, Option<Entry>) = (
+        None, None, None, None,
+    );
     let Ok(recorded) = Recorded::open(alloc, receiver, arguments.number) else {
         return (Err(Stop::Failed(Fault::NoMemory)), None);
     };

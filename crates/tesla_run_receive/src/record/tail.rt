@@ -4,15 +4,17 @@ ghost use Rattle.std.specs.Prelude.{◌≡◌, ◌++◌, ℕ, List, [], IfSome, 
 ghost use Rattle.tesla_desk.specs.Faults.{HasCause};
 ghost use Rattle.tesla_desk.specs.Outside.{AppendsPrefix, with_bytes};
 ghost use Rattle.tesla_receiver.specs.Stands.{Stands};
-ghost use Rattle.tesla_receiver.specs.declared.history.Entry.{Entry};
+ghost use Rattle.tesla_receiver.specs.Entries.{Entry};
 ghost use Rattle.tesla_recorder.specs.Recorded.{RecordedStands};
 ghost use Rattle.tesla_run_receive.specs.record.Allowed.{MayGoOn};
 ghost use Rattle.tesla_run_receive.specs.record.Record.{tail_of};
 
 use crate::{Extra, Idle};
 use tesla_desk::{Environment, Output};
-use tesla_front::Fault;
+use tesla_front::{Fault, Lines};
 use tesla_recorder::Recorded;
+use tesla_run_replay::report_lines;
+use tesla_shared::Receiving;
 use tesla_trace::tail_head_bytes;
 
 /// TAIL, to which the last entries are written when the workers have ended.
@@ -28,8 +30,10 @@ impl<D: Environment> Extra<D, Recorded> for Tail<'_> {
     ghost use Rattle.std.specs.Prelude.{◌≡◌, List, Some, not};
     ghost use Rattle.std.proofs.Common.{subst, sym};
     ghost use Rattle.tesla_receiver.specs.Stands.{Stands};
-    ghost use Rattle.tesla_receiver.specs.declared.history.Entry.{Entry};
+    ghost use Rattle.tesla_receiver.specs.Entries.{Entry};
+    ghost use Rattle.tesla_receiver.specs.Report.{report_of};
     ghost use Rattle.tesla_recorder.specs.Recorded.{RecordedStands};
+    ghost use Rattle.tesla_run_replay.specs.ReportText.{report_text};
     ghost use Rattle.tesla_shared.specs.Due.{IsOfWorker};
     ghost use Rattle.tesla_turn.specs.History.{entries};
     ghost use Rattle.tesla_turn.specs.Permitted.{ArePermitted};
@@ -43,7 +47,9 @@ impl<D: Environment> Extra<D, Recorded> for Tail<'_> {
 
     ghost output = { λ tail. Some tail.name.now };
 
-    ghost holds = { λ tail. HoldsTail tail.keep };
+    ghost holds = { λ tail _. HoldsTail tail.keep };
+
+    ghost text = { λ _ history. report_text (report_of history) };
 
     ghost allowed = { λ _. Unit {0} };
 
@@ -58,9 +64,16 @@ impl<D: Environment> Extra<D, Recorded> for Tail<'_> {
         Ok(Idle { it })
     }
 
+    fn lines(station: &Recorded) -> Lines
+        ensures { (h : List Entry) → RecordedStands Stands station.now h → result.bytes ≡ report_text (report_of h) }
+    {
+        report_lines(&station.report())
+    }
+
     fn end(begun: Idle<D::Pieces>, station: Recorded, desk: &mut D) -> bool
-        requires { (extra : Tail) × (log : List (Call Entry)) × (IsNewTail extra.keep extra.name.now station.keep (D.Pieces.written begun.it) (D.Pieces.faults begun.it) (D.Pieces.name begun.it) × MayWriteTailOf D.Pieces.name D.Pieces.written D.Pieces.may_write D.Time.read_for station.station.config extra.keep extra.name.now) × RecordedStands Stands station (entries log) × ArePermitted (IsOfWorker D.Time.read_for station.station.config.ingests) log }
-        ensures { (extra : Tail) (h : List Entry) → IsNewTail extra.keep extra.name.now station.keep (D.Pieces.written begun.it) (D.Pieces.faults begun.it) (D.Pieces.name begun.it) × MayWriteTailOf D.Pieces.name D.Pieces.written D.Pieces.may_write D.Time.read_for station.station.config extra.keep extra.name.now → RecordedStands Stands station h → EndsBehind (HoldsTail extra.keep) (Some extra.name.now) h (D.told desk.old) (D.told desk.new) (not result) }
+        requires begun { (extra : Tail) × (IsNewTail extra.keep extra.name.now station.keep (D.Pieces.written begun.it) (D.Pieces.faults begun.it) (D.Pieces.name begun.it) × MayWriteTailOf D.Pieces.name D.Pieces.written D.Pieces.may_write D.Time.read_for station.station.config extra.keep extra.name.now) }
+        requires stood { (log : List (Call Entry)) × RecordedStands Stands station (entries log) × ArePermitted (IsOfWorker D.Time.read_for station.station.config.ingests) log }
+        ensures { (extra : Tail) (h : List Entry) → IsNewTail extra.keep extra.name.now station.keep (D.Pieces.written begun.it) (D.Pieces.faults begun.it) (D.Pieces.name begun.it) × MayWriteTailOf D.Pieces.name D.Pieces.written D.Pieces.may_write D.Time.read_for station.station.config extra.keep extra.name.now → RecordedStands Stands station h → EndsBehind (HoldsTail extra.keep h) (Some extra.name.now) (D.told desk.old) (D.told desk.new) (not result) }
     {
         let Idle { it: mut sink } = begun;
         let written = write_tail(&mut sink, &station);

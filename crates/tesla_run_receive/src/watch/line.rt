@@ -2,15 +2,17 @@
 
 ghost use Rattle.std.specs.Prelude.{◌≡◌, ◌+◌, ◌≤◌, ◌++◌, length};
 ghost use Rattle.arrayvec.specs.ArrayString.{array_string_len};
+ghost use Rattle.tesla_front.specs.Parts.{texts_of};
 ghost use Rattle.tesla_status.specs.Lines.{number_text};
-ghost use Rattle.tesla_run_receive.specs.watch.Lines.{arrivals_at, chains_text, counts_text, first_word, line_at, line_text, report_at};
+ghost use Rattle.tesla_run_receive.specs.watch.Lines.{AreShort, arrivals_at, chains_text, counts_text, first_word, line_at, line_text, others_text, report_at};
 
 use tesla_front::Lines;
 use tesla_recorder::watched::{COUNTS, REPORT_COUNTS};
 use tesla_status::add_number;
 
 // How many arrivals have the verdicts with these counts.
-fn arrivals_of(counts: &[u64; COUNTS]) -> u128
+fn arrivals_of(counts: &[u64]) -> u128
+    requires { 10 ≤ length counts.now }
     ensures { result ≡ arrivals_at counts.now }
 {
     u128::from(counts[0])
@@ -26,7 +28,8 @@ fn arrivals_of(counts: &[u64; COUNTS]) -> u128
 }
 
 // Adds the counts of a report, each with its name. These are at most 572 bytes.
-fn add_counts(line: &mut Lines, counts: &[u64; COUNTS])
+fn add_counts(line: &mut Lines, counts: &[u64])
+    requires all { 11 ≤ length counts.now }
     requires room { array_string_len line.old + 572 ≤ 2048 }
     ensures text { line.new.bytes ≡ line.old.bytes ++ counts_text (report_at counts.now) }
     ensures few { array_string_len line.new ≤ array_string_len line.old + 572 }
@@ -57,6 +60,21 @@ fn add_chains(line: &mut Lines, counts: &[u64])
     }
 }
 
+// Adds the further counts, each behind its name. These are at most 325 bytes.
+fn add_others(line: &mut Lines, names: &[&str], counts: &[u64])
+    requires short { AreShort names.now }
+    requires same { length counts.now ≡ length names.now }
+    requires room { array_string_len line.old + 325 ≤ 2048 }
+    ensures text { line.new.bytes ≡ line.old.bytes ++ others_text (texts_of names.now) counts.now }
+    ensures few { array_string_len line.new ≤ array_string_len line.old + 325 }
+{
+    for place in 0..names.len() {
+        line.push_str(" ");
+        line.push_str(names[place]);
+        add_number(line, "=", u128::from(counts[place]));
+    }
+}
+
 // Adds the word before a reading, and the reading. These are at most 52 bytes.
 fn add_reading(line: &mut Lines, is_last: bool, time: u64)
     requires room { array_string_len line.old + 52 ≤ 2048 }
@@ -83,11 +101,13 @@ pub(crate) struct LineFacts {
     pub(crate) failed_sinks: u64,
 }
 
-/// The line of the counts, for so many chains, with its LF. It takes no memory.
+/// The line of the counts, for so many chains and the further numbers of these names, with its LF. It takes no memory.
 #[tactic(auto, unfolding(crate::specs::watch::Lines::line_text))]
-pub(crate) fn line_of(facts: &LineFacts, counts: &[u64; COUNTS], chains: u8) -> Lines
-    requires { chains ≤ 8 }
-    ensures { result.bytes ≡ line_text (line_at facts.now chains counts.now) }
+pub(crate) fn line_of(facts: &LineFacts, counts: &[u64], chains: u8, names: &[&str]) -> Lines
+    requires few { chains ≤ 8 }
+    requires short { AreShort names.now }
+    requires size { length counts.now ≡ 19 + length names.now }
+    ensures { result.bytes ≡ line_text (texts_of names.now) (line_at facts.now chains counts.now) }
 {
     let mut line = Lines::new();
     add_reading(&mut line, facts.is_last, facts.time);
@@ -99,6 +119,7 @@ pub(crate) fn line_of(facts: &LineFacts, counts: &[u64; COUNTS], chains: u8) -> 
     );
     add_number(&mut line, " held=", u128::from(facts.held_readings));
     add_number(&mut line, " failedsinks=", u128::from(facts.failed_sinks));
+    add_others(&mut line, names, &counts[COUNTS..]);
     line.push_str("\n");
     line
 }

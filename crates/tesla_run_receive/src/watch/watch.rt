@@ -7,23 +7,25 @@ ghost use Rattle.tesla_front.specs.Command.{Performs, RunsAs};
 ghost use Rattle.tesla_receiver.specs.Stands.{Stands};
 ghost use Rattle.tesla_run_receive.specs.Arguments.{AreFew, workers_wanted};
 ghost use Rattle.tesla_run_receive.specs.OutputArguments.{OutputArguments, arguments_of};
+ghost use Rattle.tesla_shared.specs.Receiving.{IsReplyDue, yield_of};
 ghost use Rattle.tesla_session.specs.Allowed.{MayAsk, MayAskLinks, MayReleaseAll};
 ghost use Rattle.tesla_run_receive.specs.Allowed.{MayWriteReleased};
-ghost use Rattle.tesla_run_receive.specs.Running.{RunsStation};
+ghost use Rattle.tesla_run_receive.specs.Running.{RunsStation, receiving};
 ghost use Rattle.tesla_recorder.specs.declared.watched.watched.WatchedConfig.{WatchedConfig};
 ghost use Rattle.tesla_run_receive.specs.watch.Allowed.{MayWriteLines, MayWriteLinesOf};
 ghost use Rattle.tesla_run_receive.specs.watch.Arguments.{IsWatch};
+ghost use Rattle.tesla_run_receive.specs.watch.Lines.{chain_columns};
 ghost use Rattle.tesla_run_receive.specs.watch.Watch.{HoldsStatus, watching};
 
 use crate::watch::forms::WORDS;
-use crate::watch::monitor::Monitoring;
+use crate::watch::monitoring::Monitoring;
 use crate::{OutputWords, StationResult, output_words_in, receiver_under, run_station};
 use std::alloc::Global;
 use std::sync::Wait;
 use std::thread::Threads;
 use tesla_desk::Observed;
 use tesla_front::{Fault, LiveRun, Outcome, Stop, outcome_of, without_history};
-use tesla_receiver::Receiver;
+use tesla_receiver::{Entry, Receiver, Reply, Take, Verdict};
 use tesla_recorder::watched::Watched;
 use tesla_turn::Last;
 
@@ -96,10 +98,14 @@ fn run_watched<R: Threads + Wait + Sync, D: Observed>(
     requires ingests { receiver.config.ingests ≡ length (arguments_of arguments.now).receive.links }
     requires asked { MayAsk D.Wire.brought D.Time.may_ask }
     requires any_link { MayAskLinks D.Wire.may_ask }
-    requires released { MayReleaseAll D.Pieces.name D.Pieces.written D.Pieces.may_write D.Time.read_for receiver.config 0 (arguments_of arguments.now).receive.sinks }
-    requires output { MayWriteLinesOf D.Pieces.name D.Pieces.written D.Pieces.may_write D.Time.gave (length receiver.config.setup.rows) arguments.now.output.now }
-    ensures { (cfg : WatchedConfig Config) × RunsStation (HoldsStatus (length receiver.config.setup.rows)) (Some arguments.now.output.now) receiver.config (workers_wanted (arguments_of arguments.now).receive) cfg (D.told desk.old) (D.told desk.new) result.1 (result_view result.0) }
+    requires released { MayReleaseAll D.Pieces.name D.Pieces.written D.Pieces.may_write yield_of (IsReplyDue receiver.config D.Time.read_for) 0 (arguments_of arguments.now).receive.sinks }
+    requires output { MayWriteLinesOf D.Pieces.name D.Pieces.written D.Pieces.may_write D.Time.gave (chain_columns (length receiver.config.setup.rows)) arguments.now.output.now }
+    ensures { (cfg : WatchedConfig Config) × RunsStation (receiving receiver.config) (HoldsStatus (length receiver.config.setup.rows)) (Some arguments.now.output.now) (workers_wanted (arguments_of arguments.now).receive) cfg (D.told desk.old) (D.told desk.new) result.1 (result_view result.0) }
 {
+    // The borrow checker knows the types of a station's answers where they are named.
+    let _answers: (Option<Verdict>, Option<Take>, Option<Reply>, Option<Entry>) = (
+        None, None, None, None,
+    );
     let Ok((watched, reader)) = Watched::open(alloc, receiver) else {
         return (Err(Stop::Failed(Fault::NoMemory)), None);
     };

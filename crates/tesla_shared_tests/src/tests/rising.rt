@@ -9,12 +9,11 @@ use super::receiver_of;
 use std::sync::Wait;
 use std::sync::atomic::AtomicU64;
 use std::sync::atomic::Ordering::SeqCst;
-use std::sync::ledger::Ledger;
 use std::test::*;
 use std::thread::{Threads, join};
-use tesla_base::Steps;
+use tesla_capture::Gatherer;
 use tesla_desk::{Clock, Got, Link, OpenGate};
-use tesla_receiver::{Config, Entry, Receiver, Report, Take, Verdict};
+use tesla_receiver::{Config, Receiver, Reply, Take, Verdict};
 use tesla_shared::*;
 use tesla_turn::{Chronicle, Pass, Permitting, Turn};
 
@@ -31,7 +30,7 @@ struct Rising {
 }
 
 impl Chronicle for Rising {
-    type Entry = Entry;
+    type Entry = tesla_receiver::Entry;
 
     type Config = Config;
 
@@ -45,26 +44,44 @@ impl Permitting for Rising {
 }
 
 impl Station for Rising {
-    ghost receiver = { λ config. config };
+    ghost use Rattle.tesla_receiver.specs.History.{IsLegal};
+    ghost use Rattle.tesla_shared.specs.Receiving.{yield_of};
+    ghost use Rattle.tesla_state.specs.Replies.{reply_shown, KeepsBehind};
+
+    type Verdict = Verdict;
+
+    type Reply = Reply;
+
+    type Take = Take;
+
+    ghost ingests = { λ config. config.ingests };
+
+    ghost is_legal = { IsLegal };
+
+    ghost shown = { reply_shown };
+
+    ghost keeps_behind = { KeepsBehind };
+
+    ghost yields = { yield_of };
 
     ghost legal = { λ rising h stood. stood.legal };
 
-    fn arrive<L: Ledger>(
-        &mut self,
-        ingest: u8,
-        reading: u64,
-        bytes: &[u8],
-        steps: &mut Steps<L>,
-    ) -> Verdict {
+    fn arrive(&mut self, ingest: u8, reading: u64, bytes: &[u8]) -> Verdict {
         self.arrivals = self.arrivals.saturating_add(1);
         self.rises = self.rises && self.last < reading;
         self.last = reading;
-        <Receiver as Station>::arrive(&mut self.receiver, ingest, reading, bytes, steps)
+        <Receiver as Station>::arrive(&mut self.receiver, ingest, reading, bytes)
     }
 
     fn take(&mut self, releaser: u8, into: &mut [u8; 1200]) -> Take {
         <Receiver as Station>::take(&mut self.receiver, releaser, into)
     }
+
+    fn gather(take: Take, payload: &[u8; 1200], gatherer: &mut Gatherer) -> Gathered {
+        <Receiver as Station>::gather(take, payload, gatherer)
+    }
+
+    fn let_go(_verdict: Verdict) {}
 
     fn end(&mut self, ingest: u8) {
         <Receiver as Station>::end(&mut self.receiver, ingest);
@@ -72,10 +89,6 @@ impl Station for Rising {
 
     fn calls(&self) -> u64 {
         <Receiver as Station>::calls(&self.receiver)
-    }
-
-    fn report(&self) -> Report {
-        <Receiver as Station>::report(&self.receiver)
     }
 }
 

@@ -11,7 +11,7 @@ use std::test::*;
 use std::thread::yield_now;
 use tesla_desk::{Environment, Gate, SinkOutput};
 use tesla_memory_desk::{Heap, Letters, MemoryDesk, Readings};
-use tesla_receiver::Receiver;
+use tesla_receiver::{Entry, Receiver, Reply, Take, Verdict};
 use tesla_shared::*;
 use tesla_test_desk::Row;
 use tesla_turn::{Last, Pass, Turn};
@@ -133,6 +133,10 @@ fn begun_of(
     requires ingests { (config : Config) → sink.config ≡ Some config → config.ingests ≡ 1 }
     ensures { result.link ≡ link }
 {
+    // The borrow checker knows the types of a station's answers where they are named.
+    let _answers: (Option<Verdict>, Option<Take>, Option<Reply>, Option<Entry>) = (
+        None, None, None, None,
+    );
     Begun {
         turn,
         first,
@@ -166,7 +170,8 @@ fn closed<R: Wait>(
     turn.join(&mut first, link);
     turn.join(&mut first, sink);
     let (shared, last) = turn.close(rt, first);
-    laws::whole_history(&shared, &last);
+    laws::whole_history(&last);
+    laws::whole_release(&shared, &last);
     let _last: Last<Receiver> = last.of_value();
     let receiver = shared.into_station();
     receiver.calls()

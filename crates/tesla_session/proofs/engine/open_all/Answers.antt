@@ -1,5 +1,6 @@
 use Rattle.std.proofs.Common.{◌≡◌, ◌+◌, ℕ, List, ◌++◌, Ok, Err, length, map, subst, sym, ap, ◌∙◌, arith}
 use Rattle.std.proofs.lemmas.List.{length-map}
+use Rattle.tesla_shared.specs.Due.{IsDue}
 use Rattle.tesla_session.specs.Wanted.{links_wanted, sinks_wanted}
 use Rattle.tesla_session.specs.Session.{OpensWorkers, SeenLink, name_of, workers_of}
 use Rattle.tesla_session.specs.Allowed.{AllowsSink, AreAllowed}
@@ -69,8 +70,9 @@ open_each-requires-in-Ok-clause-allowed g c κs within =
     let many : length links ≡ length c.args.links.now = ap length c.as_slice.ensures in
     let pieces = g.D.Pieces.Output in
     let read_for = g.D.Time.Clock.read_for in
-    let receiver = g.V.Station.receiver in
-    subst (λ (sinks : List (List ℕ)). AreAllowed (AllowsSink pieces.name pieces.written pieces.may_write read_for receiver) later 0 sinks) (sym c.as_slice-in-Ok.ensures)
-    (sinks_allowed pieces.name pieces.written pieces.may_write read_for receiver later 0 c.args.sinks.now
+    let yields = g.V.Station.yields in
+    let is_due = λ (cfg : g.row.V-Config.Denot). IsDue yields (g.V.Station.is_legal cfg) (g.V.Station.ingests cfg) read_for in
+    subst (λ (sinks : List (List ℕ)). AreAllowed (AllowsSink pieces.name pieces.written pieces.may_write yields is_due g.V.Station.ingests) later 0 sinks) (sym c.as_slice-in-Ok.ensures)
+    (sinks_allowed pieces.name pieces.written pieces.may_write yields is_due g.V.Station.ingests later 0 c.args.sinks.now
     (λ cfg is. c.requires.released cfg (sym same.config ∙ is))
     (λ cfg is. omega (arith, joined, wants_links 0 links, many, c.requires.alone, c.requires.ingests cfg (sym same.config ∙ is))))

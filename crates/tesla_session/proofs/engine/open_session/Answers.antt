@@ -41,6 +41,6 @@ returns-in-Err-clause-refused g c fault is cfg first =
     let old = g.D.Environment.told c.args.desk.now in
     let new = g.D.Environment.told c.close_workers-turn.new.desk in
     let same : c.in-Err.fault ≡ fault = cc in
-    subst (λ (f : Fault). RefusedSession wanted cfg old new f) same
+    subst (λ (f : Fault). RefusedSession g.row.V-Verdict.Denot g.row.V-Reply.Denot wanted cfg old new f) same
     (session_refused wanted cfg c.args.session.turn (1 + length c.args.links.now + length c.args.sinks.now) old (g.D.Environment.told c.open_all.new.desk) new
     c.args.session.first done.first c.close_workers-turn.result.1 (workers_of done.links.items done.sinks.items) c.in-Err.fault first (omega (arith, wants_all c.args.links.now c.args.sinks.now)) c.in-Err.ensures.opens c.close_workers-turn.ensures.closes)

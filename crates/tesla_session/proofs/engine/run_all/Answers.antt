@@ -29,8 +29,8 @@ returns-clause-runs g c =
     let links = c.run_workers.new.links in
     let sinks = c.run_workers.new.sinks in
     let old = workers_of session.links.items session.sinks.items in
-    subst (λ ws. RunWorkers old (workers_of ws (take session.sinks.len (sinks ++ drop (length sinks) session.sinks.items)))) (sym (written_back SeenLink session.links.items links c.as_mut_slice.result.now session.links.len c.as_mut_slice.ensures.value c.as_mut_slice.ensures.len c.run_workers.ensures.links))
-    (subst (λ ws. RunWorkers old (workers_of links ws)) (sym (written_back SeenSink session.sinks.items sinks c.as_mut_slice-2.result.now session.sinks.len c.as_mut_slice-2.ensures.value c.as_mut_slice-2.ensures.len c.run_workers.ensures.sinks))
-    (runs_both (map SeenLink session.links.items) (map SeenLink links) (map SeenSink session.sinks.items) (map SeenSink sinks)
-    (subst (λ ws. RunWorkers (map SeenLink ws) (map SeenLink links)) c.as_mut_slice.ensures.value c.run_workers.ensures.links)
-    (subst (λ ws. RunWorkers (map SeenSink ws) (map SeenSink sinks)) c.as_mut_slice-2.ensures.value c.run_workers.ensures.sinks)))
+    subst (λ ws. RunWorkers g.V.Station.yields old (workers_of ws (take session.sinks.len (sinks ++ drop (length sinks) session.sinks.items)))) (sym (written_back g.V.Station.yields SeenLink session.links.items links c.as_mut_slice.result.now session.links.len c.as_mut_slice.ensures.value c.as_mut_slice.ensures.len c.run_workers.ensures.links))
+    (subst (λ ws. RunWorkers g.V.Station.yields old (workers_of links ws)) (sym (written_back g.V.Station.yields SeenSink session.sinks.items sinks c.as_mut_slice-2.result.now session.sinks.len c.as_mut_slice-2.ensures.value c.as_mut_slice-2.ensures.len c.run_workers.ensures.sinks))
+    (runs_both g.V.Station.yields (map SeenLink session.links.items) (map SeenLink links) (map SeenSink session.sinks.items) (map SeenSink sinks)
+    (subst (λ ws. RunWorkers g.V.Station.yields (map SeenLink ws) (map SeenLink links)) c.as_mut_slice.ensures.value c.run_workers.ensures.links)
+    (subst (λ ws. RunWorkers g.V.Station.yields (map SeenSink ws) (map SeenSink sinks)) c.as_mut_slice-2.ensures.value c.run_workers.ensures.sinks)))

@@ -36,7 +36,7 @@ close_workers-turn-requires-clause-others g c κs within =
     let done = c.run_all-stop.new.session in
     let (wanted, cfg, before, now, opens) = c.requires in
     subst (λ (turn : TurnId). AreOf turn (workers_of done.links.items done.sinks.items)) (sym c.run_all-stop.ensures.same.0)
-    (runs_of old.turn (workers_of old.links.items old.sinks.items) (workers_of done.links.items done.sinks.items) c.run_all-stop.ensures.runs
+    (runs_of g.V.Station.yields old.turn (workers_of old.links.items old.sinks.items) (workers_of done.links.items done.sinks.items) c.run_all-stop.ensures.runs
     (opened_of wanted cfg before now old.turn old.first (workers_of old.links.items old.sinks.items) opens))
 
 pub close-station-requires-clause-own : goal.close-station-requires-clause-own
@@ -75,8 +75,8 @@ pub returns-clause-stands : goal.returns-clause-stands
 returns-clause-stands g c =
     let closed = c.close-station in
     let read_for = g.D.Time.Clock.read_for in
-    subst (λ station. StandsForCalls g.V.Chronicle.config g.V.Chronicle.stands g.V.Station.receiver read_for station c.of_value.result.history) (sym c.into_station.ensures)
-    (subst (λ last. StandsForCalls g.V.Chronicle.config g.V.Chronicle.stands g.V.Station.receiver read_for closed.result.0.station last.history) (sym c.of_value.ensures)
+    subst (λ station. StandsForCalls g.V.Chronicle.config g.V.Chronicle.stands g.V.Station.ingests read_for station c.of_value.result.history) (sym c.into_station.ensures)
+    (subst (λ last. StandsForCalls g.V.Chronicle.config g.V.Chronicle.stands g.V.Station.ingests read_for closed.result.0.station last.history) (sym c.of_value.ensures)
     (record { stood = closed.ensures.value.0; calls = closed.ensures.permitted }))
 
 pub returns-clause-config : goal.returns-clause-config

@@ -4,16 +4,16 @@ use Rattle.tesla_session.proofs.AnyEnded.{first_ends, none_ends, others_end}
 use Rattle.tesla_session.proofs.stop.+any_link.Goals as goal
 
 pub returns-in-empty : goal.returns-in-empty
-returns-in-empty g t c = none_ends (λ (worker : LinkSeen g.row.V-Config.Denot). is_link_end worker.end c.args.end) c.args.workers.now c.in-empty.len_below
+returns-in-empty g t c = none_ends (λ (worker : LinkSeen g.row.V-Config.Denot g.row.V-Verdict.Denot g.row.V-Reply.Denot). is_link_end worker.end c.args.end) c.args.workers.now c.in-empty.len_below
 
 pub returns-then-eq : goal.returns-then-eq
 returns-then-eq g t c =
-    let ends = λ (worker : LinkSeen g.row.V-Config.Denot). is_link_end worker.end c.args.end in
+    let ends = λ (worker : LinkSeen g.row.V-Config.Denot g.row.V-Verdict.Denot g.row.V-Reply.Denot). is_link_end worker.end c.args.end in
     let test : ends c.worker-item.result ≡ true = search rules in
     c.if-eq.true ∙ first_ends ends c.args.workers.now c.worker-item.result c.in-len1-up.len_at_least (ap ends (sym c.worker-item.is) ∙ test)
 
 pub returns-else-eq : goal.returns-else-eq
 returns-else-eq g t c =
-    let ends = λ (worker : LinkSeen g.row.V-Config.Denot). is_link_end worker.end c.args.end in
+    let ends = λ (worker : LinkSeen g.row.V-Config.Denot g.row.V-Verdict.Denot g.row.V-Reply.Denot). is_link_end worker.end c.args.end in
     let test : ends c.worker-item.result ≡ false = search rules in
     others_end ends c.args.workers.now c.worker-item.result c.any_link.result c.in-len1-up.len_at_least (ap ends (sym c.worker-item.is) ∙ test) c.any_link.ensures

@@ -1,47 +1,53 @@
-use Rattle.std.proofs.Common.{take, ap, refl, ◌∙◌}
-use Rattle.tesla_desk.proofs.Told.{appends_none}
-use Rattle.tesla_state.specs.declared.replies.Reply.TheVariants.{Given, Empty}
+use Rattle.std.proofs.Common.{◌≡◌, ℕ, List, ap, refl, sym, subst, true, ◌∙◌}
+use Rattle.tesla_desk.specs.Outside.{AppendsPrefix, with_bytes}
 use Rattle.tesla_shared.proofs.Passing.{only_more}
-use Rattle.tesla_shared.proofs.Writing.{drains_more, drains_failed, takes_more}
+use Rattle.tesla_shared.proofs.Writing.{drains_failed, drains_nothing, drains_record, takes_more}
 use Rattle.tesla_shared.proofs.draining.drain.Goals as goal
 
-pub write_record-requires-clause-permitted : goal.write_record-requires-clause-permitted
-write_record-requires-clause-permitted g c =
-    let head = c.in-Given.head in
-    let payload = take head.length c.take_once.new.act.payload in
-    let only = only_more c.args.pass.now c.loop.pass c.take_once.new.pass c.loop.invariant.calls c.take_once.ensures.calls in
+pub write_piece-requires : goal.write_piece-requires
+write_piece-requires g c =
+    let took = c.in-Record.ensures.takes in
+    let (text, yields, text_is) = took.gathers in
+    let only = only_more c.args.pass.now c.loop.pass c.gather_once.new.pass c.loop.invariant.calls took.calls in
     let drained = c.loop.invariant.drains in
-    c.requires.due c.loop.sink head payload c.loop.invariant.name (record {
-      pass = c.take_once.new.pass;
-      number = ap (λ p. p.number) only;
-      config = ap (λ p. p.config) only;
-      stood = c.take_once.ensures.stood;
-      permitted = c.take_once.ensures.permitted;
-      answers = drained.answers;
-      calls = c.take_once.ensures.own ∙ takes_more _ _ _ _ drained.answers (Given head payload) _ c.loop.invariant.releaser drained.made_are c.in-Given.ensures.made;
-      written_is = drained.writes.1;
-    })
+    let piece : c.bytes.result.now ≡ text = c.bytes.ensures ∙ text_is in record {
+      permitted = subst (λ (bytes : List ℕ). g.S.Output.may_write c.loop.sink bytes ≡ true) (sym piece) (c.requires.due c.loop.sink took.reply text c.loop.invariant.name (record {
+        pass = c.gather_once.new.pass;
+        number = ap (λ p. p.number) only;
+        config = ap (λ p. p.config) only;
+        stood = took.stood;
+        permitted = took.permitted;
+        answers = drained.answers;
+        calls = took.own ∙ takes_more _ _ _ _ drained.answers took.reply _ c.loop.invariant.releaser drained.made_are took.made;
+        written_is = drained.writes.1;
+      }) yields);
+    }
 
-pub returns-then-not-write_record-clause-drains : goal.returns-then-not-write_record-clause-drains
-returns-then-not-write_record-clause-drains g c =
-    let head = c.in-Given.head in
-    drains_failed _ _ _ _ _ _ _ (Given head (take head.length c.take_once.new.act.payload)) _ refl c.loop.invariant.releaser c.loop.invariant.drains c.in-Given.ensures.made c.write_record.ensures.prefix
+pub returns-then-not-write_piece-clause-drains : goal.returns-then-not-write_piece-clause-drains
+returns-then-not-write_piece-clause-drains g c =
+    let took = c.in-Record.ensures.takes in
+    let (text, yields, text_is) = took.gathers in
+    drains_failed g.V.Station.yields _ _ _ _ _ _ _ took.reply text _ yields c.loop.invariant.releaser c.loop.invariant.drains took.made
+    (subst (λ (bytes : List ℕ). AppendsPrefix (g.S.Output.written c.loop.sink) (g.S.Output.written c.write_piece.new.self) bytes) (c.bytes.ensures ∙ text_is) c.write_piece.ensures.prefix)
 
-pub loop-preserved-else-not-write_record : goal.loop-preserved-else-not-write_record
-loop-preserved-else-not-write_record g c =
-    let head = c.in-Given.head in record {
-      releaser = c.take_once.ensures.releaser ∙ c.loop.invariant.releaser;
-      calls = only_more c.args.pass.now c.loop.pass c.take_once.new.pass c.loop.invariant.calls c.take_once.ensures.calls;
-      drains = drains_more _ _ _ _ _ _ _ (Given head (take head.length c.take_once.new.act.payload)) _ refl c.loop.invariant.releaser c.loop.invariant.drains c.in-Given.ensures.made (c.if-not-write_record.ensures.all refl);
-      faults = c.if-not-write_record.ensures.cause.still (λ e. absurd cc) ∙ c.loop.invariant.faults;
-      name = c.write_record.ensures.name ∙ c.loop.invariant.name;
+pub loop-preserved-else-not-write_piece : goal.loop-preserved-else-not-write_piece
+loop-preserved-else-not-write_piece g c =
+    let took = c.in-Record.ensures.takes in
+    let (text, yields, text_is) = took.gathers in record {
+      releaser = c.gather_once.ensures.releaser ∙ c.loop.invariant.releaser;
+      calls = only_more c.args.pass.now c.loop.pass c.gather_once.new.pass c.loop.invariant.calls took.calls;
+      drains = drains_record g.V.Station.yields _ _ _ _ _ _ _ took.reply text _ yields c.loop.invariant.releaser c.loop.invariant.drains took.made
+          (c.if-not-write_piece.ensures.all refl ∙ ap (λ (bytes : List ℕ). with_bytes (g.S.Output.written c.loop.sink) bytes) (c.bytes.ensures ∙ text_is));
+      faults = c.if-not-write_piece.ensures.cause.still (λ e. absurd cc) ∙ c.loop.invariant.faults;
+      name = c.write_piece.ensures.name ∙ c.loop.invariant.name;
     }
 
 pub loop-preserved : goal.loop-preserved
-loop-preserved g c = record {
-  releaser = c.take_once.ensures.releaser ∙ c.loop.invariant.releaser;
-  calls = only_more c.args.pass.now c.loop.pass c.take_once.new.pass c.loop.invariant.calls c.take_once.ensures.calls;
-  drains = drains_more _ _ _ _ _ _ _ Empty _ refl c.loop.invariant.releaser c.loop.invariant.drains c.in-Empty.ensures.made (appends_none _);
-  faults = c.loop.invariant.faults;
-  name = c.loop.invariant.name;
-}
+loop-preserved g c =
+    let took = c.in-Nothing.ensures.takes in record {
+      releaser = c.gather_once.ensures.releaser ∙ c.loop.invariant.releaser;
+      calls = only_more c.args.pass.now c.loop.pass c.gather_once.new.pass c.loop.invariant.calls took.calls;
+      drains = drains_nothing g.V.Station.yields _ _ _ _ _ _ took.reply _ took.gathers.0 c.loop.invariant.releaser c.loop.invariant.drains took.made;
+      faults = c.loop.invariant.faults;
+      name = c.loop.invariant.name;
+    }

@@ -1,24 +1,27 @@
 use Rattle.std.proofs.Common.{Some, length, refl, subst, sym}
 use Rattle.tesla_fitting.specs.declared.config.Config.{Config}
 use Rattle.tesla_run_receive.proofs.Allowed.{releases_all}
+use Rattle.tesla_run_receive.proofs.Complete.{receiver_completes}
 use Rattle.tesla_run_receive.proofs.Performed.{lives_none, lives_run, performs_with}
 use Rattle.tesla_run_receive.proofs.watch.Held.{runs_status}
 use Rattle.tesla_run_receive.specs.watch.Allowed.{MayWriteLinesOf}
+use Rattle.tesla_run_receive.specs.Receive.{of_receiver}
 use Rattle.tesla_run_receive.specs.Arguments.{workers_wanted}
 use Rattle.tesla_run_receive.specs.OutputArguments.{arguments_of}
+use Rattle.tesla_run_receive.specs.watch.Lines.{chain_columns}
 use Rattle.tesla_run_receive.specs.watch.Watch.{HoldsStatus, watched}
 use Rattle.tesla_run_receive.proofs.watch.watch.perform.Goals as goal
 
 pub run_watched-requires-clause-released : goal.run_watched-requires-clause-released
 run_watched-requires-clause-released g c κs within =
     let (setup, found, config) = c.in-Ok.ensures.found in
-    releases_all g.D.Pieces.Output.name g.D.Pieces.Output.written g.D.Pieces.Output.may_write g.D.Time.Clock.read_for (arguments_of c.args.arguments.now).receive (g.D.Environment.told c.args.desk.now) setup c.in-Ok.receiver.config found config c.requires.released
+    releases_all of_receiver g.D.Pieces.Output.name g.D.Pieces.Output.written g.D.Pieces.Output.may_write g.D.Time.Clock.read_for (arguments_of c.args.arguments.now).receive (g.D.Environment.told c.args.desk.now) setup c.in-Ok.receiver.config found config c.requires.released
 
 pub run_watched-requires-clause-output : goal.run_watched-requires-clause-output
 run_watched-requires-clause-output g c κs within =
     let arguments = arguments_of c.args.arguments.now in
     let (setup, found, config) = c.in-Ok.ensures.found in
-    subst (λ (cfg : Config). MayWriteLinesOf g.D.Pieces.Output.name g.D.Pieces.Output.written g.D.Pieces.Output.may_write g.D.Time.Clock.gave (length cfg.setup.rows) arguments.output) (sym config) (c.requires.output setup found)
+    subst (λ (cfg : Config). MayWriteLinesOf g.D.Pieces.Output.name g.D.Pieces.Output.written g.D.Pieces.Output.may_write g.D.Time.Clock.gave (chain_columns (length cfg.setup.rows)) arguments.output) (sym config) (c.requires.output setup found)
 
 pub returns-in-Ok : goal.returns-in-Ok
 returns-in-Ok g c =
@@ -28,7 +31,7 @@ returns-in-Ok g c =
     let (setup, found, config) = made.found in
     let (cfg, runs) = c.run_watched.ensures in
     performs_with watched arguments _ _ _ _
-    (lives_run (λ setup. HoldsStatus (length setup.rows)) (Some arguments.output) arguments.receive _ setup cfg _ _ _ _ _ is.received (is.named, is.not_sink) made.pages made.live found _ made.opened made.causes
+    (lives_run of_receiver receiver_completes (λ setup. HoldsStatus (length setup.rows)) (Some arguments.output) arguments.receive _ setup cfg _ _ _ _ _ is.received (is.named, is.not_sink) made.pages made.live found _ made.opened made.causes
     (runs_status (Some arguments.output) _ _ (workers_wanted arguments.receive) cfg _ _ _ _ config runs))
 
 pub returns-in-Err : goal.returns-in-Err
@@ -37,4 +40,4 @@ returns-in-Err g c =
     let is = c.requires.form.1 in
     let made = c.in-Err.ensures in
     performs_with watched arguments _ _ _ _
-    (lives_none (λ setup. HoldsStatus (length setup.rows)) (Some arguments.output) arguments.receive _ _ _ _ c.in-Err.stop is.received (is.named, is.not_sink) made.opens made.pages made.live made.refused made.causes refl)
+    (lives_none of_receiver (λ setup. HoldsStatus (length setup.rows)) (Some arguments.output) arguments.receive _ _ _ _ c.in-Err.stop is.received (is.named, is.not_sink) made.opens made.pages made.live made.refused made.causes refl)

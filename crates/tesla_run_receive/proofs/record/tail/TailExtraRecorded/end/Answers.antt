@@ -9,11 +9,12 @@ use Rattle.tesla_run_receive.proofs.record.tail.TailExtraRecorded.end.Goals as g
 
 pub write_tail-written-requires-clause-empty : goal.write_tail-written-requires-clause-empty
 write_tail-written-requires-clause-empty g c =
-    let (extra, log, begun, stands, calls) = c.requires in begun.0.1
+    let (extra, begun) = c.requires.begun in begun.0.1
 
 pub write_tail-written-requires-clause-allowed : goal.write_tail-written-requires-clause-allowed
 write_tail-written-requires-clause-allowed g c =
-    let (extra, log, begun, stands, calls) = c.requires in (
+    let (extra, begun) = c.requires.begun in
+    let (log, stands, calls) = c.requires.stood in (
       entries log,
       stands,
       λ it piece named goes. begun.1 it piece (named ∙ begun.0.3) (record {

@@ -1,7 +1,7 @@
 use Rattle.std.proofs.Common.{[], ◌∷◌, ◌++◌, sym, subst}
-use Rattle.tesla_receiver.specs.declared.history.Entry.{Entry}
+use Rattle.tesla_receiver.specs.Entries.{Entry}
 use Rattle.tesla_receiver.specs.Stands.{Stands}
-use Rattle.tesla_shared.proofs.station.ReceiverStation.arrive.Goals as goal
+use Rattle.tesla_shared.proofs.receiving.judge.Goals as goal
 
 pub returns-clause-stands : goal.returns-clause-stands
 returns-clause-stands g c h _ stood =
