@@ -32,6 +32,8 @@ module _ {S : Type 0} (output_name : S → List ℕ) (written : S → Option (Li
     status = λ arguments is setup spelled it piece named next. writes it piece;
     relayed = λ post datagram due. sends post datagram;
     tallies = λ arguments is it piece named next. writes it piece;
+    followed = λ arguments is it piece due. writes it piece;
+    counts = λ arguments is it piece named next. writes it piece;
   }
 
   pub recorded_allowed : AllowsRecorded output_name written may_write post_name sent may_send brought may_ask_link may_ask gave read_for words told

@@ -4,6 +4,8 @@ use Rattle.tesla_desk.specs.Outside.{Told}
 use Rattle.tesla_front.specs.Table.{IsFirst}
 use Rattle.tesla_run_capture.specs.Pieces as capturing
 use Rattle.tesla_run_feed.specs.Due as feeding
+use Rattle.tesla_run_follow.specs.Allowed.{MayWriteCounts, MayWriteFollowed}
+use Rattle.tesla_run_follow.specs.Arguments.{IsFollow}
 use Rattle.tesla_run_relay.specs.Due as relaying
 use Rattle.tesla_run_relay.specs.play.Due as playing
 use Rattle.tesla_run_relay.specs.watch.Allowed.{MayTellForWords}
@@ -34,9 +36,9 @@ module _ {S : Type 0} (output_name : S → List ℕ) (written : S → Option (Li
       pub relayed : (post : P) (datagram : List ℕ) → relaying.IsDue brought words (post_name post) (sent post) datagram → may_send post datagram ≡ true
       pub played : (post : P) (datagram : List ℕ) → playing.IsDue gave told words (post_name post) (sent post) datagram → may_send post datagram ≡ true
 
-    -- capture, feed, watch and watch-relay: the same of what is captured, of the frames that are due of a feed, of what is released, and of what a relay is to send next, whose link may be asked as that of relay; STATUS may have each line that comes next
+    -- capture, feed, watch, watch-relay and follow: the same of what is captured, of the frames that are due of a feed, of what is released or followed, and of what a relay is to send next, whose link may be asked as that of relay; STATUS may have each line that comes next
     pub record AllowsLiveTools (words : List (List ℕ)) (told : Told) : Type 0 where
-      pub any_link : IsFirst (codes "capture") words ⊎ IsFirst (codes "feed") words ⊎ IsFirst (codes "watch") words → MayAskLinks may_ask_link
+      pub any_link : IsFirst (codes "capture") words ⊎ IsFirst (codes "feed") words ⊎ IsFirst (codes "watch") words ⊎ IsFirst (codes "follow") words → MayAskLinks may_ask_link
       pub relay_link : tallying.MayAskForWords (was_put brought) (was_full brought) has_brought may_ask_link words
       pub asked : MayAsk brought may_ask
       pub captured : (it : S) (piece : List ℕ) → capturing.IsCapturedAs read_for words told.live (output_name it) (written it) piece → may_write it piece ≡ true
@@ -46,6 +48,8 @@ module _ {S : Type 0} (output_name : S → List ℕ) (written : S → Option (Li
       pub status : (arguments : OutputArguments) → IsWatch arguments words → MayWriteLines output_name written may_write gave arguments told
       pub relayed : (post : P) (datagram : List ℕ) → tallying.IsDue brought words (post_name post) (sent post) datagram → may_send post datagram ≡ true
       pub tallies : MayTellForWords output_name written may_write gave words
+      pub followed : (arguments : OutputArguments) → IsFollow arguments words → MayWriteFollowed output_name written may_write read_for arguments.receive told
+      pub counts : (arguments : OutputArguments) → IsFollow arguments words → MayWriteCounts output_name written may_write gave arguments
 
   -- record: the same of what is released; TAIL may have each piece of the last entries of a history
   pub record AllowsRecorded (words : List (List ℕ)) (told : Told) : Type 0 where

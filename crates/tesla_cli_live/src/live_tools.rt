@@ -7,12 +7,13 @@ ghost use Rattle.tesla_front.specs.Run.{HasStatusCauses};
 ghost use Rattle.tesla_desk.specs.Outside.{Told};
 ghost use Rattle.tesla_front.specs.Table.{OpensConsole};
 ghost use Rattle.tesla_cli_live.specs.Allowed.{AllowsLiveTools};
-ghost use Rattle.tesla_cli_live.specs.Commands.{IsLiveTool, IsWatching, RunsLiveTools, live_tool_of};
+ghost use Rattle.tesla_cli_live.specs.Commands.{IsLiveTool, LeavesHistory, RunsLiveTools, followed_in, live_tool_of, watched_in};
 
 use std::alloc::Global;
 use std::sync::Wait;
 use std::thread::Threads;
 use tesla_desk::Observed;
+use tesla_follow_station::CountedFollower;
 use tesla_front::{
     FormText, LiveRun, Outcome, is_named, open_console, report_run, without_history,
 };
@@ -20,33 +21,74 @@ use tesla_recorder::watched::Watched;
 use tesla_relay::PostQueues;
 use tesla_run_capture::{CAPTURE, run_capture};
 use tesla_run_feed::{FEED, FEED_STATUS, run_feed};
+use tesla_run_follow::{FOLLOW, run_follow};
 use tesla_run_receive::watch::{WATCH, run_watch};
 use tesla_run_relay::watch::{WATCH_RELAY, run_watch_relay};
 use tesla_turn::Last;
 
 /// The forms of the tools, in the order in which they are told.
-pub const FORMS: [FormText; 5] = [CAPTURE, FEED, FEED_STATUS, WATCH, WATCH_RELAY];
+pub const FORMS: [FormText; 6] = [CAPTURE, FEED, FEED_STATUS, WATCH, WATCH_RELAY, FOLLOW];
 
 /// Whether the words are for this table: the first of them names one of its tools.
 pub fn is_live_tool(words: &[String]) -> bool
     ensures yes { result ≡ true → IsLiveTool (map string_bytes words.now) }
     ensures no { result ≡ false → IsLiveTool (map string_bytes words.now) → ⊥ }
 {
-    is_named(words, &["capture", "feed", "watch", "watch-relay"])
+    is_named(
+        words,
+        &["capture", "feed", "watch", "watch-relay", "follow"],
+    )
+}
+
+/// The whole history of a tool that leaves one.
+#[derive(Drop)]
+pub enum ToolLast {
+    /// That of `watch`.
+    Watched(Last<Watched>),
+    /// That of `follow`.
+    Followed(Last<CountedFollower>),
+}
+
+// A run of `watch`, with its history as that of a tool.
+fn of_watch(run: LiveRun<Last<Watched>>) -> LiveRun<ToolLast>
+    ensures outcome { result.outcome ≡ run.outcome }
+    ensures last { watched_in result.last ≡ run.last }
+    ensures none { run.last ≡ None → result.last ≡ None }
+{
+    let LiveRun { outcome, last } = run;
+    let last = match last {
+        Some(last) => Some(ToolLast::Watched(last)),
+        None => None,
+    };
+    LiveRun { outcome, last }
+}
+
+// A run of `follow`, with its history as that of a tool.
+fn of_follow(run: LiveRun<Last<CountedFollower>>) -> LiveRun<ToolLast>
+    ensures outcome { result.outcome ≡ run.outcome }
+    ensures last { followed_in result.last ≡ run.last }
+    ensures none { run.last ≡ None → result.last ≡ None }
+{
+    let LiveRun { outcome, last } = run;
+    let last = match last {
+        Some(last) => Some(ToolLast::Followed(last)),
+        None => None,
+    };
+    LiveRun { outcome, last }
 }
 
 // Runs the words as those of the tool that the first of them names. `Usage` where it names none, or there is no word,
-// and then nothing was opened. There is a history behind `watch` alone.
+// and then nothing was opened. There is a history behind `watch` and `follow` alone.
 fn run_words<R: Threads + Wait + Sync, D: Observed + PostQueues>(
     rt: &R,
     alloc: Global,
     words: &[String],
     desk: &mut D,
-) -> LiveRun<Last<Watched>>
+) -> LiveRun<ToolLast>
     requires { AllowsLiveTools D.Pieces.name D.Pieces.written D.Pieces.may_write D.Port.name D.Port.sent D.Port.may_send D.Wire.brought D.Wire.may_ask D.Time.may_ask D.Time.gave D.Time.read_for D.Wire.has_brought D.was_put D.was_full (map string_bytes words.now) (D.told desk.old) }
     ensures runs { RunsAs (live_tool_of D.Pause.over (D.told desk.old).live (D.told desk.new).live result.last (map string_bytes words.now)) (map string_bytes words.now) (D.told desk.old) (D.told desk.new) (outcome_view result.outcome) }
     ensures none { outcome_view result.outcome ≡ Usage → result.last ≡ None }
-    ensures others { (IsWatching (map string_bytes words.now) → ⊥) → result.last ≡ None }
+    ensures others { (LeavesHistory (map string_bytes words.now) → ⊥) → result.last ≡ None }
 {
     match words {
         [] => without_history(Outcome::Usage),
@@ -54,10 +96,11 @@ fn run_words<R: Threads + Wait + Sync, D: Observed + PostQueues>(
             without_history(run_capture(rt, words, desk))
         }
         [word, ..] if word.as_str() == "feed" => without_history(run_feed(rt, alloc, words, desk)),
-        [word, ..] if word.as_str() == "watch" => run_watch(rt, alloc, words, desk),
+        [word, ..] if word.as_str() == "watch" => of_watch(run_watch(rt, alloc, words, desk)),
         [word, ..] if word.as_str() == "watch-relay" => {
             without_history(run_watch_relay(rt, alloc, words, desk))
         }
+        [word, ..] if word.as_str() == "follow" => of_follow(run_follow(rt, alloc, words, desk)),
         _ => without_history(Outcome::Usage),
     }
 }
@@ -68,7 +111,7 @@ fn run_told<R: Threads + Wait + Sync, D: Observed + PostQueues>(
     alloc: Global,
     words: &[String],
     desk: &mut D,
-) -> LiveRun<Last<Watched>>
+) -> LiveRun<ToolLast>
     requires allowed { (told : Told) (before : Option (List ℕ)) → OpensConsole (D.told desk.old) told before → AllowsLiveTools D.Pieces.name D.Pieces.written D.Pieces.may_write D.Port.name D.Port.sent D.Port.may_send D.Wire.brought D.Wire.may_ask D.Time.may_ask D.Time.gave D.Time.read_for D.Wire.has_brought D.was_put D.was_full (map string_bytes words.now) told }
     ensures { RunsLiveTools D.Pause.over (map string_bytes words.now) (D.told desk.old) (D.told desk.new) result.last (outcome_view result.outcome) }
 {
@@ -86,9 +129,9 @@ fn run_told<R: Threads + Wait + Sync, D: Observed + PostQueues>(
 pub struct LiveToolsDone {
     /// The status that the program ends with.
     pub status: u8,
-    /// The whole history of `watch`, where its links and outputs were opened and its workers ran; `None` of every other
-    /// tool. It takes no bytes.
-    pub last: Option<Last<Watched>>,
+    /// The whole history of `watch` or `follow`, where its links and outputs were opened and its workers ran; `None` of every
+    /// other tool. It takes no bytes.
+    pub last: Option<ToolLast>,
 }
 
 /// Runs the words as those of the live tool that the first of them names, over the desk.

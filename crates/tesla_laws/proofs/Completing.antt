@@ -26,7 +26,7 @@ use Rattle.tesla_run_capture.specs.Capture as captures
 use Rattle.tesla_run_capture.specs.Heard.{Heard}
 use Rattle.tesla_run_receive.specs.Arguments.{ReceiveArguments}
 use Rattle.tesla_run_receive.specs.Output.{WithOutput}
-use Rattle.tesla_run_receive.specs.Receive.{HasSpent, Receives, Stops}
+use Rattle.tesla_run_receive.specs.Receive.{HasSpent, LiveKind, Receives, Stops, of_receiver}
 use Rattle.tesla_run_receive.specs.Receive as receives
 use Rattle.tesla_run_relay.specs.Relay as relays
 use Rattle.tesla_run_relay.specs.play.Playing as plays
@@ -70,58 +70,58 @@ setup_ends page Usage text failed setup is found why = absurd why
 -- ---- the receivers
 
 -- no calls are spent in a history with few
-unspent : (links sinks : ℕ) (history : List Entry) → HasFewCalls links sinks history → HasSpent links sinks history → ⊥
+unspent : {V R : Type 0} (links sinks : ℕ) (history : List (Entry V R)) → HasFewCalls links sinks history → HasSpent links sinks history → ⊥
 unspent links sinks history few spent =
     ⊎_elim
     (λ link. let less = few.of_links spent.number link.0 in let least = link.1 in omega arith)
     (λ sink. let less = few.of_sinks spent.number sink.0 in let least = sink.1 in omega arith)
     spent.spent
 
-history_ends : (arguments : ReceiveArguments) (cfg : Config) (history : List Entry) (outcome : OutcomeView)
+history_ends : {V R : Type 0} (kind : LiveKind V R) (arguments : ReceiveArguments) (cfg : Config) (history : List (Entry V R)) (outcome : OutcomeView)
     → HasFewCalls (length arguments.links) (length arguments.sinks) history
-    → receives.EndsAs arguments cfg history outcome → Ends outcome
-history_ends arguments cfg history (Done text) few end = inl tt
-history_ends arguments cfg history (Failed fault) few end = inr (fault, refl)
-history_ends arguments cfg history (Refused status line) few end =
+    → receives.EndsAs kind arguments cfg history outcome → Ends outcome
+history_ends kind arguments cfg history (Done text) few end = inl tt
+history_ends kind arguments cfg history (Failed fault) few end = inr (fault, refl)
+history_ends kind arguments cfg history (Refused status line) few end =
     absurd (unspent (length arguments.links) (length arguments.sinks) history few end.2)
-history_ends arguments cfg history Usage few end = absurd end
+history_ends kind arguments cfg history Usage few end = absurd end
 
-module _ (arguments : ReceiveArguments) (before now : Live) (last : Option (Ended Entry)) (setup : File)
+module _ {V R : Type 0} (kind : LiveKind V R) (arguments : ReceiveArguments) (before now : Live) (last : Option (Ended (Entry V R))) (setup : File)
     (outcome : OutcomeView) where
   -- nothing was received
-  stop_ends : (opened : ℕ) (outs outs_now : List File) (text : List ℕ) (failed : Bool) (parts : Parts)
-      → setup.page ≡ Holds text failed → IsSetupText text parts
-      → Stops arguments opened before now last setup outs outs_now outcome → Ends outcome
-  stop_ends opened outs outs_now text failed parts is found stops =
+  stop_ends : (opened : ℕ) (outs outs_now : List File) → (kind.IsNoSetup setup.page outcome → Ends outcome)
+      → Stops kind arguments opened before now last setup outs outs_now outcome → Ends outcome
+  stop_ends opened outs outs_now refused stops =
       ⊎_elim
-      (λ none. setup_ends setup.page outcome text failed parts is found none.0)
+      (λ none. refused none.0)
       (unopened_ends outcome)
       stops.cause
 
   -- or a history was
   received_ends : (outs : List File) → HaveFewCalls arguments last
-      → Receives arguments before now last setup outs outcome → Ends outcome
+      → Receives kind arguments before now last setup outs outcome → Ends outcome
   received_ends outs few received =
       let made : HaveFewCalls arguments (Some received.end) =
-      subst (λ (o : Option (Ended Entry)). HaveFewCalls arguments o) received.last_is few in
-      history_ends arguments _ (entries received.end.history) outcome made received.outcome_is
+      subst (λ (o : Option (Ended (Entry V R))). HaveFewCalls arguments o) received.last_is few in
+      history_ends kind arguments _ (entries received.end.history) outcome made received.outcome_is
 
 pub receive_complete : ReceiveIsComplete
 receive_complete arguments before now last old new outcome text failed setup performs page found few none =
     to_end old.faults new.faults outcome performs.counts none
     (⊎_elim
-    (stop_ends arguments before now last (file_told old arguments.setup) outcome performs.opened _ _
-    text failed setup page found)
-    (λ ran. received_ends arguments before now last (file_told old arguments.setup) outcome _ few ran.1)
+    (stop_ends of_receiver arguments before now last (file_told old arguments.setup) outcome performs.opened _ _
+    (setup_ends (old.page arguments.setup) outcome text failed setup page found))
+    (λ ran. received_ends of_receiver arguments before now last (file_told old arguments.setup) outcome _ few ran.1)
     performs.does)
 
-pub output_complete : (form : WithOutput) → OutputIsComplete form
-output_complete form arguments before now last old new outcome text failed setup performs page found few none =
+-- a form of which a setup is refused as receive refuses it
+pub output_complete : {V R : Type 0} (form : WithOutput V R) → ((page : Page) (outcome : OutcomeView) → form.kind.IsNoSetup page outcome → IsNoSetup page outcome) → OutputIsComplete form
+output_complete form refused arguments before now last old new outcome text failed setup performs page found few none =
     to_end old.faults new.faults outcome performs.counts none
     (⊎_elim
-    (stop_ends arguments.receive before now last (file_told old arguments.receive.setup) outcome performs.opened _ _
-    text failed setup page found)
-    (λ ran. received_ends arguments.receive before now last (file_told old arguments.receive.setup) outcome _ few ran.1)
+    (stop_ends form.kind arguments.receive before now last (file_told old arguments.receive.setup) outcome performs.opened _ _
+    (λ why. setup_ends (old.page arguments.receive.setup) outcome text failed setup page found (refused (old.page arguments.receive.setup) outcome why)))
+    (λ ran. received_ends form.kind arguments.receive before now last (file_told old arguments.receive.setup) outcome _ few ran.1)
     performs.does)
 
 -- ---- the relays

@@ -9,6 +9,7 @@ use Rattle.tesla_front.specs.OutcomeView.{OutcomeView, Failed, IsDone}
 use Rattle.tesla_front.specs.Run.{NothingFailed}
 use Rattle.tesla_front.specs.Setup.{IsSetupText}
 use Rattle.tesla_front.specs.declared.fault.Fault.TheVariants as faults
+use Rattle.tesla_receiver.specs.Entries as receiving
 use Rattle.tesla_receiver.specs.declared.history.Entry.{Entry}
 use Rattle.tesla_run_capture.specs.Arguments.{CaptureArguments}
 use Rattle.tesla_run_capture.specs.Capture.{capture}
@@ -31,29 +32,30 @@ ComesToEnd outcome = IsDone outcome ⊎ (outcome ≡ Failed faults.NoMemory)
 
 -- ---- the receivers
 
--- a history has fewer entries of each ingest, and fewer takes of each releaser, than a worker may make calls
-pub record HasFewCalls (links sinks : ℕ) (history : List Entry) : Type 0 where
-  pub of_links : (ingest : ℕ) → ingest < links → entries_of_ingest ingest history < calls_most
-  pub of_sinks : (releaser : ℕ) → releaser < sinks → length (replies_by releaser history) < calls_most
+module _ {V R : Type 0} where
+  -- a history has fewer entries of each ingest, and fewer takes of each releaser, than a worker may make calls
+  pub record HasFewCalls (links sinks : ℕ) (history : List (Entry V R)) : Type 0 where
+    pub of_links : (ingest : ℕ) → ingest < links → entries_of_ingest ingest history < calls_most
+    pub of_sinks : (releaser : ℕ) → releaser < sinks → length (replies_by releaser history) < calls_most
 
--- so it is of the history that was made, where there was one
-abbrev pub HaveFewCalls : ReceiveArguments → Option (Ended Entry) → Type 0
-HaveFewCalls arguments last =
-    IfSome last (λ end. HasFewCalls (length arguments.links) (length arguments.sinks) (entries end.history))
+  -- so it is of the history that was made, where there was one
+  abbrev pub HaveFewCalls : ReceiveArguments → Option (Ended (Entry V R)) → Type 0
+  HaveFewCalls arguments last =
+      IfSome last (λ end. HasFewCalls (length arguments.links) (length arguments.sinks) (entries end.history))
 
 -- receive: where the desk tells a setup, and no worker came to the end of its calls
 abbrev pub ReceiveIsComplete : Type 0
 ReceiveIsComplete =
-    (arguments : ReceiveArguments) (before now : Live) (last : Option (Ended Entry)) (old new : Told)
+    (arguments : ReceiveArguments) (before now : Live) (last : Option (Ended receiving.Entry)) (old new : Told)
     (outcome : OutcomeView) (text : List ℕ) (failed : Bool) (setup : Parts) →
     Performs (receive before now last) arguments old new outcome →
     old.page arguments.setup ≡ Holds text failed → IsSetupText text setup → HaveFewCalls arguments last →
     NothingFailed old.faults new.faults → ComesToEnd outcome
 
 -- the same of a form of receive with one output more
-abbrev pub OutputIsComplete : WithOutput → Type 0
-OutputIsComplete form =
-    (arguments : OutputArguments) (before now : Live) (last : Option (Ended Entry)) (old new : Told)
+abbrev pub OutputIsComplete : {V R : Type 0} → WithOutput V R → Type 0
+OutputIsComplete {V} {R} form =
+    (arguments : OutputArguments) (before now : Live) (last : Option (Ended (Entry V R))) (old new : Told)
     (outcome : OutcomeView) (text : List ℕ) (failed : Bool) (setup : Parts) →
     Performs (with_output form before now last) arguments old new outcome →
     old.page arguments.receive.setup ≡ Holds text failed → IsSetupText text setup → HaveFewCalls arguments.receive last →

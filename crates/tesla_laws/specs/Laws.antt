@@ -7,7 +7,7 @@ use Rattle.tesla_fitting.specs.Rows.{keys_of}
 use Rattle.tesla_fitting.specs.declared.config.Config.{Config}
 use Rattle.tesla_frame.specs.Frame.{Frame}
 use Rattle.tesla_frame.specs.declared.row.KeyRow.{KeyRow}
-use Rattle.tesla_receiver.specs.declared.history.Entry.{Entry}
+use Rattle.tesla_receiver.specs.Entries.{Entry}
 use Rattle.tesla_sender.specs.Made.{Call, frame_made, interval_at, reading_of}
 use Rattle.tesla_world.specs.Laws.{IsSecure}
 use Rattle.tesla_world.specs.World.{Joined, Moment}

@@ -7,13 +7,16 @@ ghost use Rattle.tesla_memory_desk.specs.Sure.{sure_told_by};
 ghost use Rattle.tesla_front.specs.OutcomeView.{OutcomeView, status_of};
 ghost use Rattle.tesla_front.specs.Command.{Performs, RunsAs};
 ghost use Rattle.tesla_front.specs.Fault.{IsUnfailed};
-ghost use Rattle.tesla_receiver.specs.declared.history.Entry.{Entry};
+ghost use Rattle.tesla_receiver.specs.Entries.{Entry};
 ghost use Rattle.tesla_turn.specs.Held.{Ended};
-ghost use Rattle.tesla_cli_live.specs.Commands.{IsLive, IsLiveTool, IsRecorded, RunsLive, RunsLiveTools, RunsRecorded, live_of, live_tool_of};
+ghost use Rattle.tesla_cli_live.specs.Commands.{IsLive, IsLiveTool, IsRecorded, RunsLive, RunsLiveTools, RunsRecorded, followed_in, live_of, live_tool_of, watched_in};
+ghost use Rattle.tesla_cli_live.specs.declared.live_tools.ToolLast.{ToolLast};
 ghost use Rattle.tesla_run_capture.specs.Arguments.{CaptureArguments, IsCaptureForm};
 ghost use Rattle.tesla_run_capture.specs.Capture.{capture};
 ghost use Rattle.tesla_run_feed.specs.Arguments.{FeedArguments, IsFeedForm};
 ghost use Rattle.tesla_run_feed.specs.Feeding.{feed};
+ghost use Rattle.tesla_run_follow.specs.Arguments.{IsFollow};
+ghost use Rattle.tesla_run_follow.specs.Follow.{following};
 ghost use Rattle.tesla_run_relay.specs.play.Arguments.{IsPlayForm, PlayArguments};
 ghost use Rattle.tesla_run_relay.specs.play.Playing.{play};
 ghost use Rattle.tesla_run_receive.specs.Arguments.{IsReceive, ReceiveArguments};
@@ -44,13 +47,15 @@ pub fn forms_are_named()
     ensures receive_is { (arguments : ReceiveArguments) (words : List (List ℕ)) → IsReceive arguments words → IsLive words }
     ensures relay_is { (arguments : RelayArguments) (words : List (List ℕ)) → IsRelayForm arguments words → IsLive words }
     ensures play_is { (arguments : PlayArguments) (words : List (List ℕ)) → IsPlayForm arguments words → IsLive words }
-    ensures captures { (arguments : CaptureArguments) (words : List (List ℕ)) (over : Bool) (before now : Live) (last : Option (Ended Entry)) (old new : Told) (outcome : OutcomeView) → IsCaptureForm arguments words → RunsAs (live_tool_of over before now last words) words old new outcome → Performs (capture before now) arguments old new outcome }
-    ensures feeds { (arguments : FeedArguments) (words : List (List ℕ)) (over : Bool) (before now : Live) (last : Option (Ended Entry)) (old new : Told) (outcome : OutcomeView) → IsFeedForm arguments words → RunsAs (live_tool_of over before now last words) words old new outcome → Performs (feed over before now) arguments old new outcome }
-    ensures watches { (arguments : OutputArguments) (words : List (List ℕ)) (over : Bool) (before now : Live) (last : Option (Ended Entry)) (old new : Told) (outcome : OutcomeView) → IsWatch arguments words → RunsAs (live_tool_of over before now last words) words old new outcome → Performs (watching before now last) arguments old new outcome }
-    ensures watch_relays { (arguments : WatchArguments) (words : List (List ℕ)) (over : Bool) (before now : Live) (last : Option (Ended Entry)) (old new : Told) (outcome : OutcomeView) → IsWatchForm arguments words → RunsAs (live_tool_of over before now last words) words old new outcome → Performs (watch_relay before now) arguments old new outcome }
+    ensures captures { (arguments : CaptureArguments) (words : List (List ℕ)) (over : Bool) (before now : Live) (last : Option ToolLast) (old new : Told) (outcome : OutcomeView) → IsCaptureForm arguments words → RunsAs (live_tool_of over before now last words) words old new outcome → Performs (capture before now) arguments old new outcome }
+    ensures feeds { (arguments : FeedArguments) (words : List (List ℕ)) (over : Bool) (before now : Live) (last : Option ToolLast) (old new : Told) (outcome : OutcomeView) → IsFeedForm arguments words → RunsAs (live_tool_of over before now last words) words old new outcome → Performs (feed over before now) arguments old new outcome }
+    ensures watches { (arguments : OutputArguments) (words : List (List ℕ)) (over : Bool) (before now : Live) (last : Option ToolLast) (old new : Told) (outcome : OutcomeView) → IsWatch arguments words → RunsAs (live_tool_of over before now last words) words old new outcome → Performs (watching before now (watched_in last)) arguments old new outcome }
+    ensures follows { (arguments : OutputArguments) (words : List (List ℕ)) (over : Bool) (before now : Live) (last : Option ToolLast) (old new : Told) (outcome : OutcomeView) → IsFollow arguments words → RunsAs (live_tool_of over before now last words) words old new outcome → Performs (following before now (followed_in last)) arguments old new outcome }
+    ensures watch_relays { (arguments : WatchArguments) (words : List (List ℕ)) (over : Bool) (before now : Live) (last : Option ToolLast) (old new : Told) (outcome : OutcomeView) → IsWatchForm arguments words → RunsAs (live_tool_of over before now last words) words old new outcome → Performs (watch_relay before now) arguments old new outcome }
     ensures capture_is { (arguments : CaptureArguments) (words : List (List ℕ)) → IsCaptureForm arguments words → IsLiveTool words }
     ensures feed_is { (arguments : FeedArguments) (words : List (List ℕ)) → IsFeedForm arguments words → IsLiveTool words }
     ensures watch_is { (arguments : OutputArguments) (words : List (List ℕ)) → IsWatch arguments words → IsLiveTool words }
+    ensures follow_is { (arguments : OutputArguments) (words : List (List ℕ)) → IsFollow arguments words → IsLiveTool words }
     ensures watch_relay_is { (arguments : WatchArguments) (words : List (List ℕ)) → IsWatchForm arguments words → IsLiveTool words }
     ensures record_is { (arguments : OutputArguments) (words : List (List ℕ)) → IsRecord arguments words → IsRecorded words }
 {}

@@ -3,6 +3,7 @@
 ghost use Rattle.std.specs.Prelude.{◌≡◌, [], length, IfOk};
 ghost use Rattle.tesla_sender.specs.Stands.{Stands};
 
+mod follower;
 mod functions;
 mod numbers;
 mod printed;

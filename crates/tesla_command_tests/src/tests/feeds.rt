@@ -1,4 +1,4 @@
-//! Runs of `feed`, `capture` and `watch`: what posts send, at which readings of the clock. Frames were made by another program.
+//! Runs of `feed`, `capture`, `watch` and `follow`: what posts send, at which readings of the clock. Frames were made by another program.
 
 /// What each of two posts sends, at which readings of the clock: at the opening, until the next interval has begun, at each item of the
 /// link, and at each rest behind it. Interval 0 begins at 1000000, and each is 100000 long. The last interval ends at 1900000, and the
@@ -246,4 +246,14 @@ clock 1 1700000
 told 0 arrivals 1\nmalformed 1\nforeign 0\nmisfit 0\nfuture 0\nbadkey 0\nlate 0\nrepeat 0\nfull 0\nkept 0\nkeys 0\ngiven 0\n
 holds out
 holds status 'end=1700000 arrivals=1 malformed=1 foreign=0 misfit=0 future=0 badkey=0 late=0 repeat=0 full=0 kept=0 keys=0 given=0 chain0=0 chain1=0 held=0 failedsinks=0+0a
+* follow: a stream that hands over to none $ follow setup 30000 16 both out status 3600
+# The record of the packet stands behind the kind and the epoch. The clock of STATUS reads 1.7 seconds.
+clock 1 1700000
+told 0 epochs 1\narrivals 2\nmalformed 0\nforeign 0\nmisfit 0\nfuture 0\nbadkey 0\nlate 0\nrepeat 0\nfull 0\nkept 2\nkeys 0\ngiven 1\nearly 0\nunqueued 0\ndropped 0\n
+holds out 000000000000000000000000000000000100000000026869
+holds status 'end=1700000 arrivals=2 malformed=0 foreign=0 misfit=0 future=0 badkey=0 late=0 repeat=0 full=0 kept=2 keys=0 given=1 chain0=1 chain1=0 chain2=0 chain3=0 chain4=0 chain5=0 chain6=0 chain7=0 held=0 failedsinks=0 epoch=0 open=1 early=0 unqueued=0 dropped=0+0a
+* follow: a capacity above 4,096 $ follow setup 30000 4097 both out status 3600
+told 1 usage: capture LINK CAPTURE\nusage: feed SETUP SECRET LINK POSTS\nusage: feed SETUP SECRET LINK POSTS STATUS EVERY\nusage: watch SETUP LAG CAPACITY LINKS SINKS STATUS EVERY\nusage: watch-relay CAPACITY LINK POSTS STATUS EVERY\nusage: follow SETUP LAG CAPACITY LINKS SINKS STATUS EVERY\n
+* follow: two equal commitments $ follow equal-commitments 30000 16 both out status 3600
+told 2 refused setup 8 EqualCommitments\n
 ";

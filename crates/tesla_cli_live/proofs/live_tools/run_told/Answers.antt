@@ -4,9 +4,8 @@ use Rattle.tesla_front.specs.Command.{Command}
 use Rattle.tesla_front.specs.OutcomeView.{outcome_view}
 use Rattle.tesla_front.specs.Table.{RunsTable}
 use Rattle.tesla_front.proofs.Tables.{table_ran}
-use Rattle.tesla_receiver.specs.declared.history.Entry.{Entry}
-use Rattle.tesla_turn.specs.Held.{Ended}
-use Rattle.tesla_cli_live.specs.Commands.{IsWatching, live_tool_of, live_tool_usage}
+use Rattle.tesla_cli_live.specs.Commands.{LeavesHistory, live_tool_of, live_tool_usage}
+use Rattle.tesla_cli_live.specs.declared.live_tools.ToolLast.{ToolLast}
 use Rattle.tesla_cli_live.proofs.live_tools.run_told.Goals as goal
 
 pub run_words-run-requires-after_bounds : goal.run_words-run-requires-after_bounds
@@ -15,11 +14,11 @@ run_words-run-requires-after_bounds g c κs within = c.requires.allowed _ _ c.in
 pub returns-in-Ok : goal.returns-in-Ok
 returns-in-Ok g c =
     let words = map string_bytes c.args.words.now in
-    let command : Live → Live → Option (Ended Entry) → Command = λ before now last. live_tool_of g.D.Pause.Gate.over before now last words in
+    let command : Live → Live → Option ToolLast → Command = λ before now last. live_tool_of g.D.Pause.Gate.over before now last words in
     let old = g.D.Environment.told c.args.desk.now in
     let new = g.D.Environment.told c.report_run.new.desk in
-    subst (λ (last : Option (Ended Entry)). RunsTable command (IsWatching words) live_tool_usage words old new last (outcome_view c.report_run.result.outcome)) (sym c.report_run.ensures.last)
-    (table_ran command (IsWatching words) live_tool_usage words old _ _ new c.run_words-run.result.last _ _ (c.report_run.ensures.reports old _ c.in-Ok.ensures.opened) (record { runs = c.run_words-run.ensures.runs; none = c.run_words-run.ensures.none; others = c.run_words-run.ensures.others }))
+    subst (λ (last : Option ToolLast). RunsTable command (LeavesHistory words) live_tool_usage words old new last (outcome_view c.report_run.result.outcome)) (sym c.report_run.ensures.last)
+    (table_ran command (LeavesHistory words) live_tool_usage words old _ _ new c.run_words-run.result.last _ _ (c.report_run.ensures.reports old _ c.in-Ok.ensures.opened) (record { runs = c.run_words-run.ensures.runs; none = c.run_words-run.ensures.none; others = c.run_words-run.ensures.others }))
 
 pub returns-in-Err : goal.returns-in-Err
 returns-in-Err g c = rw c.without_history.ensures.outcome (inl (c.in-Err.ensures.refused c.in-Err.fault refl, c.without_history.ensures.last))

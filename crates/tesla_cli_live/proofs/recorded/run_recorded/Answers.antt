@@ -2,7 +2,7 @@ use Rattle.std.proofs.Common.{Option, map, string_bytes}
 use Rattle.tesla_desk.specs.Live.{Live}
 use Rattle.tesla_front.specs.Command.{Command}
 use Rattle.tesla_front.proofs.Tables.{table_causes}
-use Rattle.tesla_receiver.specs.declared.history.Entry.{Entry}
+use Rattle.tesla_receiver.specs.Entries.{Entry}
 use Rattle.tesla_turn.specs.Held.{Ended}
 use Rattle.tesla_run_receive.specs.record.Record.{recording}
 use Rattle.tesla_cli_live.specs.Commands.{record_usage}

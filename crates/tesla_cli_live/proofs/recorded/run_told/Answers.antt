@@ -4,7 +4,7 @@ use Rattle.tesla_front.specs.Command.{Command}
 use Rattle.tesla_front.specs.OutcomeView.{outcome_view}
 use Rattle.tesla_front.specs.Table.{RunsTable}
 use Rattle.tesla_front.proofs.Tables.{table_ran}
-use Rattle.tesla_receiver.specs.declared.history.Entry.{Entry}
+use Rattle.tesla_receiver.specs.Entries.{Entry}
 use Rattle.tesla_turn.specs.Held.{Ended}
 use Rattle.tesla_run_receive.specs.record.Record.{recording}
 use Rattle.tesla_cli_live.specs.Commands.{record_usage}

@@ -7,10 +7,10 @@ pub returns-clause-receives : goal.returns-clause-receives
 returns-clause-receives c = receive_complete
 
 pub returns-clause-records : goal.returns-clause-records
-returns-clause-records c = output_complete form_of_record
+returns-clause-records c = output_complete form_of_record (λ page outcome why. why)
 
 pub returns-clause-watches : goal.returns-clause-watches
-returns-clause-watches c = output_complete watched
+returns-clause-watches c = output_complete watched (λ page outcome why. why)
 
 pub returns-clause-relays : goal.returns-clause-relays
 returns-clause-relays c = relay_complete

@@ -27,6 +27,10 @@ pub returns-clause-watches : goal.returns-clause-watches
 returns-clause-watches c arguments words over before now last old new outcome is runs =
     (as_spelled (live_tool_of over before now last) words _ old new outcome is.spelled runs).form arguments is
 
+pub returns-clause-follows : goal.returns-clause-follows
+returns-clause-follows c arguments words over before now last old new outcome is runs =
+    (as_spelled (live_tool_of over before now last) words _ old new outcome is.form.spelled runs).form arguments is
+
 pub returns-clause-watch_relays : goal.returns-clause-watch_relays
 returns-clause-watch_relays c arguments words over before now last old new outcome is runs =
     (as_spelled (live_tool_of over before now last) words _ old new outcome (begins_with_name (codes "watch-relay") words is.spelled) runs).form arguments is

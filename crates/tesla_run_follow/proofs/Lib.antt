@@ -1,0 +1,4 @@
+pub mod Complete
+pub mod Ends
+pub mod Over
+pub mod Runs

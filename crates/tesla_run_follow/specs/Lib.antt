@@ -1,0 +1,6 @@
+pub mod Arguments
+pub mod Allowed
+pub mod Follow
+pub mod Status
+pub mod Text
+pub mod Usage
