@@ -36,7 +36,7 @@ fn main(rt: HostRuntime) -> ExitCode {
         Ok(words) => stream_of(&rt, words.as_slice()),
         Err(_) => None,
     };
-    let gates = Gates::of(Events::new(stop, sinks, command == Command::Watch), stream);
+    let gates = Gates::of(Events::new(stop, sinks, command.failure_policy()), stream);
     let mut desk = LiveDesk::labelled(&rt, &gates, command, label);
     if let Ok(words) = &words {
         if is_live(words.as_slice()) {
@@ -74,10 +74,10 @@ fn told_by(words: &[String]) -> (Command, &'static str, u64) {
 // How many names stand in the word SINKS, which is the fifth one behind the name of a command that has sinks.
 fn sinks_in(command: Command, words: &[String]) -> u64 {
     match (command, words) {
-        (Command::Receive | Command::Record | Command::Watch, [_, _, _, _, sinks, ..]) => sinks
-            .as_str()
-            .split(',')
-            .count() as u64,
+        (
+            Command::Follow | Command::Receive | Command::Record | Command::Watch,
+            [_, _, _, _, sinks, ..],
+        ) => sinks.as_str().split(',').count() as u64,
         _ => 0,
     }
 }

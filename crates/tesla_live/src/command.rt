@@ -1,10 +1,11 @@
 //! The command that a desk is for.
 
-ghost use Rattle.std.specs.Prelude.{◌≡◌, ◌≢◌, codes};
+ghost use Rattle.std.specs.Prelude.{◌≡◌, ◌≢◌, ◌↔◌, codes};
 ghost use Rattle.tesla_live.specs.Rule as rule;
 
 use crate::rule::{Anchor, Times, receiver_reading, sender_reading};
 use tesla_files_live::Making;
+use tesla_reports::FailurePolicy;
 
 /// A command that runs over live links, posts and clocks, or another one.
 #[derive(Clone, Copy, Debug, PartialEq, Eq)]
@@ -12,6 +13,7 @@ pub enum Command {
     Capture,
     Chain,
     Feed,
+    Follow,
     Play,
     Receive,
     Record,
@@ -45,6 +47,7 @@ impl Command {
             Command::Capture => "capture",
             Command::Chain => "chain",
             Command::Feed => "feed",
+            Command::Follow => "follow",
             Command::Play => "play",
             Command::Receive => "receive",
             Command::Record => "record",
@@ -74,6 +77,18 @@ impl Command {
         }
     }
 
+    /// What its run does where a sink of records fails.
+    pub fn failure_policy(self) -> FailurePolicy
+        ensures again { (result ≡ FailurePolicy.TryAgain) ↔ (self ≡ Command.Follow) }
+        ensures ends { (result ≡ FailurePolicy.EndLinks) ↔ (self ≡ Command.Watch) }
+    {
+        match self {
+            Command::Follow => FailurePolicy::TryAgain,
+            Command::Watch => FailurePolicy::EndLinks,
+            _ => FailurePolicy::GoOn,
+        }
+    }
+
     /// What its clock gives at these times. Where a clock can't be read a play gives 0, at which nothing is due; a feed
     /// gives 2^64 - 1, at which it sends nothing; and all others give 2^64 - 1, at which no packet is safe.
     pub fn reading(self, anchor: &Anchor, now: Times) -> u64
@@ -97,6 +112,7 @@ fn receiving(name: &str) -> Command
     match name {
         "capture" => Command::Capture,
         "chain" | "chain2" => Command::Chain,
+        "follow" => Command::Follow,
         "receive" => Command::Receive,
         "record" => Command::Record,
         "relay" | "watch-relay" => Command::Relay,

@@ -9,7 +9,7 @@ use std::sync::atomic::AtomicU64;
 use std::sync::atomic::Ordering::SeqCst;
 use std::time::Duration;
 use tesla_desk::Gate;
-use tesla_reports::Events;
+use tesla_reports::{Events, FailurePolicy};
 
 /// How many microseconds a gate rests at most.
 const REST: u64 = 100_000;
@@ -31,7 +31,7 @@ pub struct Gates {
 impl Gates {
     /// Nothing was released yet, and no gate rests. Nothing ends the links of the run from without.
     pub fn new() -> Gates {
-        Gates::of(Events::new(None, 0, false), None)
+        Gates::of(Events::new(None, 0, FailurePolicy::GoOn), None)
     }
 
     /// The same of a run of which this is told, and over this stream, where that is known.

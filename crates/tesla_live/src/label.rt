@@ -1,7 +1,7 @@
 //! The names of commands, as lines on standard error begin with them.
 
 /// The names of all commands, and of the two words that ask for a text.
-const LABELS: [&str; 26] = [
+const LABELS: [&str; 27] = [
     "ask",
     "audit",
     "capture",
@@ -9,6 +9,7 @@ const LABELS: [&str; 26] = [
     "chain2",
     "early",
     "feed",
+    "follow",
     "info",
     "lag",
     "play",

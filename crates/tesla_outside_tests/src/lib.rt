@@ -1,4 +1,4 @@
-//! Tests of the running system: its clocks, its gates and the waits of its links.
+//! Tests of the running system: its clocks, its gates, the waits of its links and its sinks that fail.
 #![tactic(auto)]
 
 #[cfg(test)]

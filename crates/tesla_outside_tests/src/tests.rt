@@ -2,4 +2,5 @@
 
 mod clocks;
 mod gates;
+mod sinks;
 mod waits;

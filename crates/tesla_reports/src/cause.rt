@@ -14,9 +14,19 @@ pub enum Cause {
 impl Cause {
     /// Whether there was no memory.
     pub fn is_of_memory(&self) -> bool {
+        self.is_of(io::ErrorKind::OutOfMemory)
+    }
+
+    /// Whether nobody reads any more what is to be written.
+    pub fn is_of_reader(&self) -> bool {
+        self.is_of(io::ErrorKind::BrokenPipe)
+    }
+
+    // Whether the system answered an error of this kind.
+    fn is_of(&self, kind: io::ErrorKind) -> bool {
         match self {
             Cause::Form(_) => false,
-            Cause::System(error) => error.kind() == io::ErrorKind::OutOfMemory,
+            Cause::System(error) => error.kind() == kind,
         }
     }
 }

@@ -23,7 +23,12 @@ impl Tally {
         self.count.fetch_add(1, SeqCst);
     }
 
-    /// How often it was raised.
+    /// Takes back one time that it was raised.
+    pub fn lower(&self) {
+        self.count.fetch_sub(1, SeqCst);
+    }
+
+    /// How often it was raised, less those times that were taken back.
     pub fn so_far(&self) -> u64 {
         self.count.load(SeqCst)
     }
@@ -34,6 +39,7 @@ impl Tally {
 pub struct Tallies {
     pub held: Tally,
     pub unsent: Tally,
+    /// Sinks of records that fail now: for good, or until they are written again.
     pub failed_sinks: Tally,
 }
 

@@ -11,7 +11,7 @@ mod reporter;
 
 pub use cause::Cause;
 pub use ending::{Ending, LOOKS_APART};
-pub use events::Events;
+pub use events::{Events, FailurePolicy};
 pub use incidents::{LiveIncidents, Tallies, Tally};
 pub use limit::Limit;
 pub use moments::{SINCE_BOOT, monotonic, read_clock};

@@ -41,6 +41,19 @@ impl<'a, R: Eprint> Reporter<'a, R> {
         );
     }
 
+    /// Tells that what has this name can't be written, and why, and that it is tried again.
+    pub fn cannot_write_yet(&self, name: &str, cause: &Cause) {
+        let _ = eprintln!(self.rt;
+            "tesla: {}: cannot write {name:?}: {cause} (tried again each second)",
+            self.command
+        );
+    }
+
+    /// Tells that what has this name, which couldn't be written before, was written.
+    pub fn written_again(&self, name: &str) {
+        let _ = eprintln!(self.rt; "tesla: {}: {name:?} is written again", self.command);
+    }
+
     /// Tells that the file of this name may be read by others than its owner, by these bits of its mode.
     pub fn readable(&self, name: &str, mode: u32) {
         let _ = eprintln!(self.rt;

@@ -121,7 +121,7 @@ fn clocks_of_commands_where_the_date_is_set(rt: HostRuntime) {
         assert!(rt; *least <= read && read <= *most, "{name} {read}");
         assert_eq!(rt; reported, *lines, "{name}");
     }
-    for name in ["capture", "relay"] {
+    for name in ["capture", "follow", "relay"] {
         assert_eq!(rt; Command::named(name).name(), name);
     }
     assert_eq!(rt; Command::named("replay"), Command::Other);

@@ -1,0 +1,8 @@
+use Rattle.std.proofs.Common.{◌≡◌}
+use Rattle.tesla_files_live.proofs.sink.FileSink.ask_on.Given as goal
+
+abbrev pub invariant-loop : goal.invariant-loop
+invariant-loop g l = record {
+  name : l.self.name ≡ l.initial.self.name;
+  faults : l.self.faults ≡ l.initial.self.faults;
+}
