@@ -10,7 +10,7 @@ use Rattle.tesla_feed.specs.Steps.{ComesOfGiven, fed_after}
 -- ---- readings that the clock gave
 
 -- one event more
-given_more : (gave : ℕ → Bool) (read_for : ℕ → List ℕ → ℕ → Bool) (number : ℕ) (events : List Event) (event : Event)
+pub given_more : (gave : ℕ → Bool) (read_for : ℕ → List ℕ → ℕ → Bool) (number : ℕ) (events : List Event) (event : Event)
     → AreGiven gave read_for number events → IsGiven gave read_for (fold datagrams_by number events) event
     → AreGiven gave read_for number (events ++ event ∷ [])
 given_more gave read_for number [] event given one = (one, tt)

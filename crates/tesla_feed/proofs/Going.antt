@@ -106,7 +106,7 @@ goes_none stream first made after first_posts posts feeder now failed goes makes
 
 -- ---- readings
 
-map_more : {A B : Type 0} (f : A → B) (xs : List A) (x : A) → map f (xs ++ x ∷ []) ≡ map f xs ++ f x ∷ []
+pub map_more : {A B : Type 0} (f : A → B) (xs : List A) (x : A) → map f (xs ++ x ∷ []) ≡ map f xs ++ f x ∷ []
 map_more f [] x = refl
 map_more f (y ∷ xs) x = ap (λ ys. f y ∷ ys) (map_more f xs x)
 
@@ -121,7 +121,7 @@ waits_none feeder told was_told = record {
   noted = tells_none feeder.sender.stream feeder.first nothing_fed was_told;
 }
 
-all_more : {A : Type 0} (P : A → Type 0) (xs : List A) (x : A) → AllByRecursion P xs → P x → AllByRecursion P (xs ++ x ∷ [])
+pub all_more : {A : Type 0} (P : A → Type 0) (xs : List A) (x : A) → AllByRecursion P xs → P x → AllByRecursion P (xs ++ x ∷ [])
 all_more P [] x all one = (one, tt)
 all_more P (y ∷ xs) x all one = (all.0, all_more P xs x all.1 one)
 
@@ -197,11 +197,11 @@ opens_at reading before then after misses ticks read = record {
 pub fed_more : (stream : Stream) (first : ℕ) (made : Feeding) (events : List Event) (event : Event) → fed_after stream first made (events ++ event ∷ []) ≡ after_event stream first (fed_after stream first made events) event
 fed_more stream first made events event = fold-append (after_event stream first) made events (event ∷ [])
 
-letters_twice : (left : Option (List Letter)) (a b : List Letter) → after_letters a (after_letters b left) ≡ after_letters (a ++ b) left
+pub letters_twice : (left : Option (List Letter)) (a b : List Letter) → after_letters a (after_letters b left) ≡ after_letters (a ++ b) left
 letters_twice None a b = refl
 letters_twice (Some rest) a b = ap (λ (ls : List Letter). Some ls) (sym (append_assoc a b rest))
 
-letters_none : (left : Option (List Letter)) → left ≡ after_letters [] left
+pub letters_none : (left : Option (List Letter)) → left ≡ after_letters [] left
 letters_none None = refl
 letters_none (Some rest) = refl
 

@@ -151,7 +151,7 @@ intervals_rise times reading later le =
       | inr before ↦ (rw before omega arith)
     ]
 
-in_interval : (times : Times) (call : Call) → interval_in times call ≡ interval_at times (reading_of call)
+pub in_interval : (times : Times) (call : Call) → interval_in times call ≡ interval_at times (reading_of call)
 in_interval times (Message reading payload) = refl
 in_interval times (Disclose reading) = refl
 

@@ -27,7 +27,7 @@ unsent None = refl
 unsent (Some prefix) = ap (λ (ds : List (List ℕ)). Some ds) (sym (append-nil prefix))
 
 -- nothing was sent, and no post has failed
-none_sent : {A : Type 0} (f : A → PostSeen) (xs : List A) (marks : List Bool) → length xs ≤ length marks → list_all not marks ≡ true → SendPosts [] (map f xs) (map f xs) (take (length xs) marks)
+pub none_sent : {A : Type 0} (f : A → PostSeen) (xs : List A) (marks : List Bool) → length xs ≤ length marks → list_all not marks ≡ true → SendPosts [] (map f xs) (map f xs) (take (length xs) marks)
 none_sent f [] marks few none = tt
 none_sent f (x ∷ xs) [] few none = absurd (omega arith)
 none_sent f (x ∷ xs) (true ∷ marks) few none = absurd cc
@@ -55,18 +55,18 @@ begun_goes seen stream first feeder now before after told is_told posts marks st
 
 -- ---- readings
 
-gives_both : (readings more : List ℕ) (before mid after : Option Ticking) → Gives readings before mid → Gives more mid after → Gives (readings ++ more) before after
+pub gives_both : (readings more : List ℕ) (before mid after : Option Ticking) → Gives readings before mid → Gives more mid after → Gives (readings ++ more) before after
 gives_both [] more before mid after first next = subst (λ (told : Option Ticking). Gives more told after) first next
 gives_both (reading ∷ readings) more before mid after first next = (first.0, first.1, gives_both readings more first.0 mid after first.2 next)
 
-map_both : {A B : Type 0} (f : A → B) (xs ys : List A) → map f (xs ++ ys) ≡ map f xs ++ map f ys
+pub map_both : {A B : Type 0} (f : A → B) (xs ys : List A) → map f (xs ++ ys) ≡ map f xs ++ map f ys
 map_both f [] ys = refl
 map_both f (x ∷ xs) ys = ap (λ zs. f x ∷ zs) (map_both f xs ys)
 
 -- ---- the end
 
 -- nothing is left of the link, where it didn't fail and not all posts did
-ended : (hearing : Hearing) (mid failed : List Bool) (later : Option (List Letter)) → StopsHearing hearing mid later → (hearing ≡ hearings.LinkFailed → ⊥) → (list_all has_failed mid ≡ true → failed ≡ mid) → list_all has_failed failed ≡ false → IfSome later (λ rest. rest ≡ [])
+pub ended : (hearing : Hearing) (mid failed : List Bool) (later : Option (List Letter)) → StopsHearing hearing mid later → (hearing ≡ hearings.LinkFailed → ⊥) → (list_all has_failed mid ≡ true → failed ≡ mid) → list_all has_failed failed ≡ false → IfSome later (λ rest. rest ≡ [])
 ended hearings.Ended mid failed later stops no_fault stays some = stops
 ended hearings.LinkFailed mid failed later stops no_fault stays some = absurd (no_fault refl)
 ended hearings.Unheard mid failed later stops no_fault stays some = absurd (both_ways (list_all has_failed failed) (ap (list_all has_failed) (stays stops) ∙ stops) some)

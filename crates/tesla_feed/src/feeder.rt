@@ -198,6 +198,14 @@ impl Feeder {
         self.sender.tells_all(self.message, self.latest)
     }
 
+    /// Whether the key of the last interval was disclosed on every chain: then no call tells a newer one.
+    pub fn has_disclosed_last(&self) -> bool
+        ensures { let stream = self.now.sender.stream in result ≡ is_disclosed_after stream stream.setup.times.last self.now.latest }
+    {
+        let last = u64::from(self.sender.schedule().last());
+        self.sender.tells_all(last, self.latest)
+    }
+
     /// Makes the keys of the next interval, before it begins. Nothing is changed that the next calls answer.
     pub fn make_next<L: Ledger>(&mut self, steps: &mut Steps<L>)
         ensures { (made : Feeding) → StandsFor self.old.sender.stream self.old.first self.old made → StandsFor self.old.sender.stream self.old.first self.new made }

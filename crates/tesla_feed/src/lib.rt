@@ -17,6 +17,6 @@ pub use feeder::Feeder;
 pub use feeding::{FeedEnd, Instruments, MOST_POSTS, feed};
 pub use hearing::Hearing;
 pub use notes::{NoNotes, Notes};
-pub use opening::{OpenFeed, open_feed};
+pub use opening::{OpenFeed, first_reading, has_ended, open_feed};
 pub use posts::{hand, has_one_failed, have_all_failed};
 pub use readings::is_unread;

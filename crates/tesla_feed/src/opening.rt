@@ -43,8 +43,8 @@ pub fn open_feed<R: Wait, C: Clock, G: Gate>(
     Some(OpenFeed { sender, opening })
 }
 
-// Reads the clock until it can be read, and gives that reading. The gate rests between two readings.
-fn first_reading<R: Wait, C: Clock, G: Gate>(rt: &R, clock: &mut C, gate: &mut G) -> u64
+/// Reads the clock until it can be read, and gives that reading, in microseconds. The gate rests between two readings.
+pub fn first_reading<R: Wait, C: Clock, G: Gate>(rt: &R, clock: &mut C, gate: &mut G) -> u64
     ensures opens { OpensAt result (C.told clock.old) (C.told clock.new) }
     ensures gave { C.gave result ≡ true }
 {
@@ -58,9 +58,9 @@ fn first_reading<R: Wait, C: Clock, G: Gate>(rt: &R, clock: &mut C, gate: &mut G
     unreachable!()
 }
 
-// Whether a feed that is opened at this reading is over: on each chain the last key was due at the latest 65 intervals
-// before that of the microsecond before the reading.
-fn has_ended(sender: &Sender, opening: u64) -> bool
+/// Whether a feed that is opened at this reading is over: on each chain the last key was due at the latest 65 intervals
+/// before that of the microsecond before the reading.
+pub fn has_ended(sender: &Sender, opening: u64) -> bool
     ensures { result ≡ has_ended sender.now.stream opening }
 {
     let last = u64::from(sender.schedule().last());

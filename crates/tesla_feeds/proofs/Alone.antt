@@ -37,19 +37,19 @@ frames_one stream log call =
 
 -- ---- no key is newer than those that a message told at the same reading
 
-not_below : (a b : ℕ) → nat_lt (max a b) b ≡ false
+pub not_below : (a b : ℕ) → nat_lt (max a b) b ≡ false
 not_below a b = le-ltb (max a b) b (omega arith)
 
-none_newer : (most : Chain → ℕ) (index : Chain → ℕ) (chains : List Chain) → ((chain : Chain) → nat_lt (most chain) (index chain) ≡ false) → list_any (λ chain. nat_lt (most chain) (index chain)) chains ≡ false
+pub none_newer : (most : Chain → ℕ) (index : Chain → ℕ) (chains : List Chain) → ((chain : Chain) → nat_lt (most chain) (index chain) ≡ false) → list_any (λ chain. nat_lt (most chain) (index chain)) chains ≡ false
 none_newer most index [] none = refl
 none_newer most index (chain ∷ chains) none = ap (λ b. b || list_any (λ c. nat_lt (most c) (index c)) chains) (none chain) ∙ none_newer most index chains none
 
-and_false : (a b c : Bool) → c ≡ false → (a && (b && c)) ≡ false
+pub and_false : (a b c : Bool) → c ≡ false → (a && (b && c)) ≡ false
 and_false true true c is = is
 and_false true false c is = refl
 and_false false b c is = refl
 
-disclosed_more : (times : Times) (log : List Call) (call : Call) (chain : Chain) → disclosed_by times (log ++ call ∷ []) chain ≡ max (disclosed_by times log chain) (index_disclosed (interval_in times call) chain)
+pub disclosed_more : (times : Times) (log : List Call) (call : Call) (chain : Chain) → disclosed_by times (log ++ call ∷ []) chain ≡ max (disclosed_by times log chain) (index_disclosed (interval_in times call) chain)
 disclosed_more times log call chain = fold-append (λ (most : ℕ) (call : Call). max most (index_disclosed (interval_in times call) chain)) 0 log (call ∷ [])
 
 told_by_message : (stream : Stream) (first : ℕ) (log : List Call) (reading : ℕ) (payload : List ℕ) → is_due stream first (log ++ Message reading payload ∷ []) reading ≡ false

@@ -6,5 +6,17 @@ mod Each
 mod Stages
 mod Alone
 mod Whole
+mod Kept
 mod Accepted
 mod Ordered
+mod Frames
+mod Given
+mod Noted
+mod Early
+mod Streams
+mod Going
+mod Begun
+mod Run
+mod Opened
+mod Apart
+mod Resting

@@ -29,7 +29,7 @@ send_both frames more posts mid now failed failed_mid failed_now first second = 
 
 -- ---- frames that may be sent
 
-if_some_as : (sent : Option (List (List ℕ))) (a b : List (List ℕ)) → a ≡ b → IfSome sent (λ all. all ≡ a) → IfSome sent (λ all. all ≡ b)
+pub if_some_as : (sent : Option (List (List ℕ))) (a b : List (List ℕ)) → a ≡ b → IfSome sent (λ all. all ≡ a) → IfSome sent (λ all. all ≡ b)
 if_some_as sent a b same is = subst (λ (ds : List (List ℕ)). IfSome sent (λ all. all ≡ ds)) same is
 
 module _ {P : Type 0} (seen : P → PostSeen) (may_send : P → List ℕ → Bool) where

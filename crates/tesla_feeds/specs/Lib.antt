@@ -1,5 +1,11 @@
+pub mod Due
 pub mod Events
 pub mod Fed
+pub mod Feeds
+pub mod Going
 pub mod Laws
+pub mod Notes
+pub mod Opening
 pub mod Order
 pub mod Steps
+pub mod Waits

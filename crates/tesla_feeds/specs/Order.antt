@@ -1,10 +1,11 @@
 -- The order of the streams of a list, and when a stream hands over to the next one.
-use Rattle.std.specs.Prelude.{◌≡◌, ℕ, ◌+◌, ◌*◌, Bool, true, false, not, ◌&&◌, ◌==◌, List, [], ◌∷◌, ◌++◌, codes, max, nat_le, nat_lt, Option, Some, None, if◌then◌else◌}
+use Rattle.std.specs.Prelude.{◌≡◌, ℕ, ◌+◌, ◌*◌, Bool, true, false, not, ◌&&◌, ◌==◌, List, [], ◌∷◌, ◌++◌, max, nat_le, nat_lt, Option, Some, None, if◌then◌else◌}
 use Rattle.std.specs.List.{AllByRecursion, fold}
 use Rattle.tesla_clock.specs.Schedule.{Times}
 use Rattle.tesla_commit.specs.Parts.{Parts}
 use Rattle.tesla_commit.specs.SetupText.{setup_text}
 use Rattle.tesla_commit.specs.declared.chain_row.ChainRow.{ChainRow}
+use Rattle.tesla_rollover.specs.Handover.{handover_mark}
 use Rattle.tesla_feeds.specs.declared.order.Disorder.{Disorder}
 use Rattle.tesla_feeds.specs.declared.order.Disorder.TheVariants as disorders
 
@@ -75,4 +76,4 @@ has_window setup next = is_told_before setup.times (greatest_delay setup) next.t
 
 -- a handover to a stream: the mark of a handover, and the text of the stream's setup
 abbrev pub handover_to : Parts → List ℕ
-handover_to next = (codes "TNXT" ++ 1 ∷ []) ++ setup_text next
+handover_to next = handover_mark ++ setup_text next

@@ -17,14 +17,22 @@ use Rattle.tesla_feeds.specs.declared.listed.ListedFeeder.{ListedFeeder}
 
 -- ---- one stream
 
--- a stream hands over to the next one by this, where there is one
-abbrev pub HandsOver : Option Handover → Stream → Option Parts → Type 0
-HandsOver None stream None = Unit {0}
-HandsOver (Some handover) stream (Some next) =
-    (handover.delay ≡ greatest_delay stream.setup) × (handover.next ≡ next.times)
+-- a stream of this setup hands over to one of the next setup by this
+abbrev pub HandsTo : Handover → Parts → Parts → Type 0
+HandsTo handover setup next =
+    (handover.delay ≡ greatest_delay setup) × (handover.next ≡ next.times)
     × (handover.payload.items ≡ handover_to next)
-HandsOver None stream (Some next) = ⊥
-HandsOver (Some handover) stream None = ⊥
+
+-- or to none, where none follows
+abbrev pub HandsOn : Option Handover → Parts → Option Parts → Type 0
+HandsOn None setup None = Unit {0}
+HandsOn (Some handover) setup (Some next) = HandsTo handover setup next
+HandsOn None setup (Some next) = ⊥
+HandsOn (Some handover) setup None = ⊥
+
+-- the same of a stream
+abbrev pub HandsOver : Option Handover → Stream → Option Parts → Type 0
+HandsOver handover stream next = HandsOn handover stream.setup next
 
 -- a feeder of the list remembers what it needs of what was made of its stream
 pub record FeedsPart (now : ListedFeeder) (part : Part) : Type 0 where

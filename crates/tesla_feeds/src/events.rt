@@ -60,6 +60,8 @@ impl FeedsCounts {
 pub struct Feeders {
     pub feeders: Vec<ListedFeeder>,
     pub counts: FeedsCounts,
+    /// The last reading of the clock that could be had, in microseconds.
+    pub reading: u64,
 }
 
 /// Makes the handover that is due, and counts it. The clock could be read.

@@ -1,17 +1,23 @@
 //! One stream of a list while it is fed: its feeder, and how it hands over to the next stream.
 
-ghost use Rattle.std.specs.Prelude.{◌≡◌, ◌≤◌, ◌&&◌, [], false, IfOk, IfSome, nat_lt};
+ghost use Rattle.std.specs.Prelude.{◌≡◌, ◌+◌, ◌≤◌, ◌&&◌, [], false, IfOk, IfSome, nat_lt};
 ghost use Rattle.tesla_sender.specs.Made.{Disclose, Message, interval_at};
 ghost use Rattle.tesla_feed.specs.Fed.{is_unread};
+ghost use Rattle.tesla_feed.specs.Steps.{until_begin};
 ghost use Rattle.tesla_feeds.specs.Fed.{Part, disclosed, handed_over, said};
+ghost use Rattle.tesla_feeds.specs.Opening.{AreHandovers, PutsHandovers};
 ghost use Rattle.tesla_feeds.specs.Order.{is_in_window};
-ghost use Rattle.tesla_feeds.specs.Steps.{DoesPart, FeedsPart, HandsPart, calls_made, refused_by, size_said};
+ghost use Rattle.tesla_feeds.specs.Steps.{DoesPart, FeedsPart, HandsPart, HandsTo, calls_made, refused_by, size_said};
+ghost use Rattle.tesla_feeds.specs.Waits.{tells_no_more};
 
-use crate::order::is_in_window;
+use crate::order::{greatest_delay, is_in_window};
+use std::alloc::Global;
 use std::sync::ledger::Ledger;
-use tesla_base::Steps;
+use tesla_base::{NoMemory, Steps};
 use tesla_clock::Schedule;
+use tesla_commit::{Setup, write_setup};
 use tesla_feed::Feeder;
+use tesla_rollover::HANDOVER_MARK;
 use tesla_sender::SendRefusal;
 
 /// How a stream hands over to the next one.
@@ -23,6 +29,51 @@ pub struct Handover {
     pub next: Schedule,
     /// The payload that names the next stream's setup.
     pub payload: Vec<u8>,
+}
+
+impl Handover {
+    /// How a stream of this setup hands over to one of the next setup: by the mark of a handover, and the text of that setup.
+    pub fn new(alloc: Global, setup: &Setup, next: &Setup) -> Result<Handover, NoMemory>
+        ensures { IfOk result (λ handover. HandsTo handover setup.now next.now) }
+    {
+        let text = write_setup(alloc, next)?;
+        let mut payload = Vec::new(alloc);
+        payload.extend_from_slice(HANDOVER_MARK)?;
+        payload.extend_from_slice(text.as_slice())?;
+        Ok(Handover {
+            delay: greatest_delay(setup),
+            next: next.schedule(),
+            payload,
+        })
+    }
+}
+
+/// How each of these streams hands over to the one behind it, and the last one to none.
+pub fn handovers(alloc: Global, setups: &[Setup]) -> Result<Vec<Option<Handover>>, NoMemory>
+    ensures { IfOk result (λ all. AreHandovers all.items setups.now) }
+{
+    let mut all = Vec::with_capacity(alloc, setups.len())?;
+    put_handovers(alloc, setups, &mut all)?;
+    Ok(all)
+}
+
+// Puts the handovers of these streams behind those that are there.
+fn put_handovers(
+    alloc: Global,
+    setups: &[Setup],
+    all: &mut Vec<Option<Handover>>,
+) -> Result<(), NoMemory>
+    ensures { IfOk result (λ _. PutsHandovers all.old.items all.new.items setups.now) }
+{
+    let Some((setup, behind)) = setups.split_first() else {
+        return Ok(());
+    };
+    let handover = match behind.first() {
+        Some(next) => Some(Handover::new(alloc, setup, next)?),
+        None => None,
+    };
+    all.push(handover)?;
+    put_handovers(alloc, behind, all)
 }
 
 /// A stream of a list while it is fed.
@@ -42,6 +93,27 @@ impl ListedFeeder {
             result ≡ nat_lt times.last (interval_at times reading) }
     {
         u64::from(self.feeder.schedule().last()) < self.feeder.interval_at(reading)
+    }
+
+    /// Whether it tells no more keys: its last interval has ended by a reading of the clock, another stream follows, and the key
+    /// of that interval was disclosed on every chain.
+    pub fn tells_no_more(&self, reading: u64) -> bool
+        ensures { (part : Part) → FeedsPart self.now part → result ≡ tells_no_more part reading }
+    {
+        self.handover.is_some() && self.is_past(reading) && self.feeder.has_disclosed_last()
+    }
+
+    /// How many microseconds after a reading the interval behind that of `before` begins, 0 where it has begun. A begin behind
+    /// 2^64 - 1 counts as that.
+    pub fn until_after(&self, before: u64, reading: u64) -> u64
+        ensures { let times = self.now.feeder.sender.stream.setup.times in
+            result ≡ until_begin times (interval_at times before + 1) reading }
+    {
+        let schedule = self.feeder.schedule();
+        let next = u128::from(self.feeder.interval_at(before)) + 1;
+        let begin = u128::from(schedule.start()) + next * u128::from(schedule.length());
+        let begin = begin.min(u128::from(u64::MAX)) as u64;
+        begin.saturating_sub(reading)
     }
 
     /// Makes the frame of a message that came at this reading, where it is sent, and gives its length.
