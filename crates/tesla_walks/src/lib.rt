@@ -16,5 +16,5 @@ pub use ordering::{Proved, sort, span};
 pub use proving::{prove, proving_chain};
 pub use reaching::{highest_reached, indices};
 pub use release::Release;
-pub use tips::first_tips;
+pub use tips::{begin_tips, first_tips};
 pub use walk::Walk;
