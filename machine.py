@@ -1,10 +1,26 @@
-"""What the scripts share that try a built program on networks and file systems of their own. They need root."""
+"""What the scripts share that try a built program with what the system answers, on networks and file systems of their own. These need
+root."""
 import os
 import shutil
 import subprocess
+import tempfile
 
 import running
-from running import HOST, read, wait_until
+from running import HOST, make_stream, microseconds, read, wait_until
+
+# Microseconds of an interval of a stream, and the delays of its chains.
+INTERVAL, DELAYS = 200_000, (2, 3)
+
+
+def new_stream(program, folder):
+    """Makes the setup of a stream that begins now, and its seeds."""
+    make_stream(program, folder, microseconds(), INTERVAL, 400, DELAYS)
+
+
+def lines_of(folder):
+    """The lines of STATUS, each as its numbers by their names."""
+    lines = (read(f"{folder}/status") or b"").decode().split("\n")
+    return [{name: int(number) for name, number in (word.split("=") for word in line.split(" "))} for line in lines[:-1]]
 
 
 class Run(running.Run):
@@ -88,3 +104,12 @@ class Mounts:
     def __exit__(self, *_):
         for at in reversed(self.at):
             subprocess.run(["umount", at], stderr=subprocess.DEVNULL, timeout=60)
+
+
+def make_all(trials, cases):
+    """Makes the trials of these names, each in a folder of its own. One that needs what the machine doesn't let be made is skipped."""
+    for name, trial in cases.items():
+        try:
+            trials.made(name, lambda trial=trial: trial(trials.program, tempfile.mkdtemp(dir=trials.room)))
+        except Unmade as why:
+            trials.entered(name, "skipped", [f"the machine doesn't let it be made: {why}"])

@@ -62,6 +62,7 @@ usage: feed SETUP SECRET LINK POSTS
 usage: feed SETUP SECRET LINK POSTS STATUS EVERY
 usage: watch SETUP LAG CAPACITY LINKS SINKS STATUS EVERY
 usage: watch-relay CAPACITY LINK POSTS STATUS EVERY
+usage: follow SETUP LAG CAPACITY LINKS SINKS STATUS EVERY
 """
 RECORDED = b"usage: record SETUP LAG CAPACITY LINKS SINKS KEEP TAIL\n"
 # What a feed tells to which nothing comes, of a stream that has just ended: the last keys are sent, once.
@@ -102,6 +103,52 @@ def write_tool(folder, name, text):
 
 class Late(str):
     """What a trial says that is wrong by time alone."""
+
+
+class Pace:
+    """How slowly the trials go that send in real time. A trial that is made again goes slower."""
+
+    def __init__(self):
+        self.go(1)
+
+    def go(self, times):
+        """Goes so many times slower than at first. A datagram may come an interval late, half a second at first."""
+        self.times = times
+        # Microseconds of an interval of a stream, and of one of a feed.
+        self.interval, self.fed_interval = 500_000 * times, 250_000 * times
+        # Seconds of a flood, and those in which what came is surely written.
+        self.flood, self.pause = 4.5 * times, 0.5 * times
+
+
+PACE = Pace()
+
+
+def paced(trial, trials):
+    """A trial, in a folder of its own, that goes slower when it is made again."""
+    paces = iter((1, 4, 12))
+
+    def make_trial():
+        PACE.go(next(paces))
+        return trial(trials.program, tempfile.mkdtemp(dir=trials.room))
+    return make_trial
+
+
+def compared(came, want):
+    """What is wrong, where it isn't what is wanted."""
+    return [] if came == want else [f"{came!r}, and not {want!r}"]
+
+
+def in_time(came, want):
+    """What is wrong by time, where it isn't what is wanted."""
+    return [Late(it) for it in compared(came, want)]
+
+
+def in_order(came, sent):
+    """What is wrong with what came of what was sent: something else, something twice, or something before an earlier one. That
+    all came is a judgement by time."""
+    rest = iter(sent)
+    said = [] if all(it in rest for it in came) else [f"{came}, of {sent}"]
+    return said + in_time(len(came), len(sent))
 
 
 def faults_of(trial):

@@ -26,6 +26,7 @@ FILES = [
     ("completions/tesla.bash", "share/bash-completion/completions/tesla", 0o644),
     ("completions/_tesla", "share/zsh/site-functions/_tesla", 0o644),
     ("systemd/tesla-receive@.service", "lib/systemd/system/tesla-receive@.service", 0o644),
+    ("systemd/tesla-follow@.service", "lib/systemd/system/tesla-follow@.service", 0o644),
     ("systemd/tesla-feed@.service", "lib/systemd/system/tesla-feed@.service", 0o644),
     ("systemd/sinks", "libexec/tesla/sinks", 0o755),
     ("systemd/stream.env", "share/doc/tesla/examples/stream.env", 0o644),

@@ -7,7 +7,7 @@ _tesla()
     local place=$((${#words[@]} - 1)) word=${words[-1]%_}
     COMPREPLY=()
     if [ "$place" -eq 1 ]; then
-        COMPREPLY=($(compgen -W "replay chain chain2 send lag stress roll weave early trace audit receive relay play record capture feed watch watch-relay ask reply show seeds info --help --version" -- "$word"))
+        COMPREPLY=($(compgen -W "replay chain chain2 send lag stress roll weave early trace audit receive relay play record capture feed watch watch-relay follow ask reply show seeds info --help --version" -- "$word"))
         return
     fi
     case ${words[1]} in
@@ -30,6 +30,7 @@ _tesla()
         feed) kinds=(file file address address file number) ;;
         watch) kinds=(file number number address files file number) ;;
         watch-relay) kinds=(number address address file number) ;;
+        follow) kinds=(file number number address files file number) ;;
         ask) kinds=(number file) ;;
         reply) kinds=(file file number file) ;;
         show) kinds=(file) ;;
