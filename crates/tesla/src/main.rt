@@ -12,7 +12,7 @@ use tesla_cli_live::{
 };
 use tesla_files_live::read_front;
 use tesla_live::{Command, Events, Gates, LiveDesk, StreamEnd, label_of};
-use tesla_reasons::{key_file, live_setup, reason_of, stream_in, weak_keys};
+use tesla_reasons::{key_file, live_setups, reason_of, stream_in, weak_keys};
 
 /// The variable of the environment that has the path at which something is put to end a live command.
 const STOP: &str = "TESLA_STOP";
@@ -116,10 +116,24 @@ fn tell_weak_keys<R: Files + Eprint + AllocGlobal>(rt: &R, words: &[String], lab
     }
 }
 
-// The stream of the setup that the words of a live command name, where that is a regular file. What the command does hangs on none of
-// this.
+// The stream with which a live command ends, by the setups that its words name, and when its first one begins, where these are regular
+// files. What the command does hangs on none of this.
 fn stream_of<R: Files + AllocGlobal>(rt: &R, words: &[String]) -> Option<StreamEnd> {
-    let name = live_setup(words, form_in(words))?;
+    let names = live_setups(words, form_in(words))?;
+    let last = stream_named(rt, names.last)?;
+    if names.first == names.last {
+        return Some(last);
+    }
+    let first = stream_named(rt, names.first)?;
+    Some(StreamEnd {
+        stream: last.stream,
+        begin: first.begin,
+        end: last.end,
+    })
+}
+
+// The stream of a setup, where this is the name of a regular file.
+fn stream_named<R: Files + AllocGlobal>(rt: &R, name: &str) -> Option<StreamEnd> {
     let mut text = [0; MOST_TEXT];
     let length = read_front(rt, name, &mut text)?;
     let (stream, begin, end) = stream_in(rt.alloc(), &text[..length])?;

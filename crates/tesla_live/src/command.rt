@@ -1,6 +1,6 @@
 //! The command that a desk is for.
 
-ghost use Rattle.std.specs.Prelude.{◌≡◌, ◌≢◌, ◌↔◌, codes};
+ghost use Rattle.std.specs.Prelude.{◌≡◌, ◌≢◌, ◌↔◌, ◌%◌, IsTrue, codes};
 ghost use Rattle.tesla_live.specs.Rule as rule;
 
 use crate::rule::{Anchor, Times, receiver_reading, sender_reading};
@@ -59,13 +59,22 @@ impl Command {
         }
     }
 
-    /// Which of the sources that it opens has seeds, counted from 0; `None` where none has.
-    pub fn secret(self) -> Option<u64> {
+    /// Whether a source that it opens has seeds, counted from 0: of a feed, which opens the seeds of each stream behind its setup,
+    /// every second one.
+    pub fn is_secret(self, source: u64) -> bool
+        ensures feeds { self ≡ Command.Feed → IsTrue result ↔ (source % 2 ≡ 1) }
+    {
         match self {
-            Command::Chain => Some(0),
-            Command::Feed | Command::Send => Some(1),
-            _ => None,
+            Command::Chain => source == 0,
+            Command::Feed => source % 2 == 1,
+            Command::Send => source == 1,
+            _ => false,
         }
+    }
+
+    /// Whether one of the sources that it opens has seeds.
+    pub fn reads_seeds(self) -> bool {
+        matches!(self, Command::Chain | Command::Feed | Command::Send)
     }
 
     /// How its outputs are made.

@@ -10,6 +10,7 @@ use crate::feeding::name_of_feed;
 use crate::gate::{Gates, LiveGate};
 use crate::stack::overwrite_stack;
 use crate::{Anchor, Command, MachineClock};
+use std::io::{Error, ErrorKind};
 use std::net::Net;
 use std::rt::Files;
 use std::sync::Wait;
@@ -19,6 +20,9 @@ use tesla_desk::{CONSOLE, Desk, Environment, Observed, OpenRefusal, SinkOutput};
 use tesla_files_live::{FRONT, FileSink, FileSource, Making, Opened, OpenedFiles, Target};
 use tesla_net_live::{HeldName, Listening, Sending, UdpLink, UdpPost, bind, direct, hold};
 use tesla_reports::{Cause, LiveIncidents, Reporter};
+
+/// How many fronts of sources are kept at most: those of the setups of a feed, which has 16 at most.
+const MOST_FRONTS: usize = 16;
 
 /// The files of the system, standard output under the name of the console, UDP sockets as links and posts, clocks over the
 /// system's, and gates that wake one another. It tells no bytes, no letters, no mail and no readings.
@@ -42,9 +46,10 @@ pub struct LiveDesk<'a, R> {
     opened: OpenedFiles,
     // How many of each were opened or refused.
     numbers: Numbers,
-    // The front of the first source that was closed, and what a feed holds.
-    front: Option<[u8; FRONT]>,
-    held: Option<HeldName>,
+    // The fronts of the sources without seeds that were closed, how many these are, and what a feed holds.
+    fronts: [[u8; FRONT]; MOST_FRONTS],
+    known: usize,
+    held: Vec<HeldName>,
     reads: u64,
     writes: u64,
     openings: u64,
@@ -92,8 +97,9 @@ where
                 links: 0,
                 posts: 0,
             },
-            front: None,
-            held: None,
+            fronts: [[0; FRONT]; MOST_FRONTS],
+            known: 0,
+            held: Vec::new(rt.alloc()),
             reads: 0,
             writes: 0,
             openings: 0,
@@ -130,7 +136,7 @@ impl<'a, R: Files + Net + Eprint> LiveDesk<'a, R> {
 
     // Overwrites what is left on the stack of a secret that was read before.
     fn forget_secret(&self) {
-        if self.command.secret().is_some() {
+        if self.command.reads_seeds() {
             overwrite_stack(self.rt);
         }
     }
@@ -143,22 +149,14 @@ impl<'a, R: Files + Net + Eprint> LiveDesk<'a, R> {
         }
     }
 
-    // What a feed holds, so that no other one of its stream runs on this machine.
-    fn hold_stream(&self) -> Result<Option<HeldName>, Cause> {
-        match (self.command, self.front) {
-            (Command::Feed, Some(front)) => {
-                let (name, length) = name_of_feed(&front);
-                Ok(Some(hold(self.rt, &name[..length])?))
-            }
-            _ => Ok(None),
+    // Keeps the front of a source that was closed, as long as there is room for it.
+    fn keep_front(&mut self, front: [u8; FRONT])
+        ensures { (self.new.reads ≡ self.old.reads) × (self.new.writes ≡ self.old.writes) × (self.new.openings ≡ self.old.openings) }
+    {
+        if let Some(place) = self.fronts.get_mut(self.known) {
+            *place = front;
+            self.known += 1;
         }
-    }
-
-    // The socket of a link, and what a feed holds.
-    fn listening(&self, name: &str) -> Result<(Option<HeldName>, Listening), Cause> {
-        self.look_for_stop()?;
-        let held = self.hold_stream()?;
-        Ok((held, bind(self.rt, name)?))
     }
 
     // The socket of a post. A run that has opened a link has begun with that, and ends by it.
@@ -167,6 +165,31 @@ impl<'a, R: Files + Net + Eprint> LiveDesk<'a, R> {
             self.look_for_stop()?;
         }
         direct(self.rt, name)
+    }
+}
+
+impl<'a, R: Files + Net + Eprint + AllocGlobal> LiveDesk<'a, R> {
+    // What a feed holds, so that no other one of one of its streams runs on this machine.
+    fn hold_streams(&self) -> Result<Vec<HeldName>, Cause> {
+        let mut held = Vec::new(self.rt.alloc());
+        if self.command != Command::Feed {
+            return Ok(held);
+        }
+        for front in self.fronts.iter().take(self.known) {
+            let (name, length) = name_of_feed(front);
+            let name = hold(self.rt, &name[..length])?;
+            if held.push(name).is_err() {
+                return Err(Cause::System(Error::from(ErrorKind::OutOfMemory)));
+            }
+        }
+        Ok(held)
+    }
+
+    // The socket of a link, and what a feed holds.
+    fn listening(&self, name: &str) -> Result<(Vec<HeldName>, Listening), Cause> {
+        self.look_for_stop()?;
+        let held = self.hold_streams()?;
+        Ok((held, bind(self.rt, name)?))
     }
 }
 
@@ -196,7 +219,7 @@ where
         let number = take_number(&mut self.numbers.sources);
         match self.opened.open(self.rt, name) {
             Ok(Opened { file, mode }) => {
-                let is_secret = self.command.secret() == Some(number);
+                let is_secret = self.command.is_secret(number);
                 self.tell_readable(is_secret, name, mode);
                 Ok(FileSource::new(source_name, file, self.reporter(), is_secret))
             }
@@ -263,8 +286,10 @@ where
     }
 
     fn close_source(&mut self, it: FileSource<'a, R, R::File>) {
-        if self.front.is_none() {
-            self.front = Some(it.front());
+        let front = it.front();
+        // (of seeds there are zeros alone)
+        if front[0] != 0 {
+            self.keep_front(front);
         }
         count_failed(&mut self.reads, it.faults);
     }

@@ -10,12 +10,13 @@ const PART: u64 = 8;
 /// How many microseconds a stream has at least of which that is told: ten minutes.
 const LEAST: u64 = 600_000_000;
 
-/// A stream, and the microseconds since 1970 at which it begins and at which its last interval has ended.
+/// The last stream of a run, the microseconds since 1970 at which its last interval has ended, and those at which the run's first
+/// stream begins, which is mostly the same.
 #[derive(Clone, Copy, Debug)]
 pub struct StreamEnd {
     /// The number of the stream.
     pub stream: u64,
-    /// When it begins.
+    /// When the first stream of the run begins.
     pub begin: u64,
     /// When it ends.
     pub end: u64,

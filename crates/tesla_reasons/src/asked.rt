@@ -15,7 +15,8 @@ pub(crate) fn fault_in(command: &str, asked: &str, word: &str) -> Option<&'stati
             _ => fault_in_limits(word),
         },
         "STREAM" => fault_in_stream(word),
-        "LINKS" | "SINKS" | "POSTS" => fault_in_list(word),
+        "LINKS" | "SINKS" | "POSTS" => fault_in_list(word, 32, "has more than 32 names"),
+        "SETUPS" | "SECRETS" => fault_in_list(word, 16, "has more than 16 names"),
         _ => match fault_in_number(asked, word) {
             Some(fault) => fault,
             None => fault_in_name(word),
@@ -83,8 +84,8 @@ fn fault_in_name(word: &str) -> Option<&'static str> {
     }
 }
 
-// What is wrong with a list of names.
-fn fault_in_list(word: &str) -> Option<&'static str> {
+// What is wrong with a list of names, which has so many at most; where there are more, this is told.
+fn fault_in_list(word: &str, most: u64, too_many: &'static str) -> Option<&'static str> {
     let mut count = 0u64;
     for (at, name) in word.split(',').enumerate() {
         if fault_in_name(name).is_some() {
@@ -95,8 +96,8 @@ fn fault_in_list(word: &str) -> Option<&'static str> {
         }
         count = count.saturating_add(1);
     }
-    if 32 < count {
-        return Some("has more than 32 names");
+    if most < count {
+        return Some(too_many);
     }
     None
 }

@@ -8,5 +8,5 @@ mod stream;
 mod weak;
 
 pub use reason::{Reason, reason_of};
-pub use stream::{live_setup, stream_in};
+pub use stream::{LiveSetups, live_setups, stream_in};
 pub use weak::{KeyFile, Keys, WeakKey, key_file, weak_keys};

@@ -93,6 +93,24 @@ fn faulty<'a>(command: &'a str, words: &'a [String], form: &'static str) -> Opti
             before = delay;
         }
     }
+    unequal(command, words, form)
+}
+
+// The word SECRETS, where it has another number of names than SETUPS.
+fn unequal<'a>(command: &'a str, words: &'a [String], form: &'static str) -> Option<Reason<'a>> {
+    let mut setups = None;
+    for (asked, word) in form.split(' ').skip(1).zip(words.iter()) {
+        let word = word.as_str();
+        let count = Some(word.split(',').count());
+        match asked {
+            "SETUPS" => setups = count,
+            "SECRETS" if setups != count => {
+                let fault = "hasn't as many names as SETUPS";
+                return Some(Reason::Word(command, asked, word, fault));
+            }
+            _ => {}
+        }
+    }
     None
 }
 
@@ -106,6 +124,7 @@ fn same<'a>(command: &'a str, words: &'a [String], form: &'static str) -> Option
             let (word, input) = (word.as_str(), input.as_str());
             let is_same = match (asked, other) {
                 ("SINKS", "SETUP") => word.split(',').any(|name| name == input),
+                (_, "SETUPS" | "SECRETS") => input.split(',').any(|name| name == word),
                 (_, "SINKS") => asked != "SINKS" && input.split(',').any(|name| name == word),
                 _ => is_input(other) && asked != other && word == input,
             };

@@ -1,21 +1,42 @@
-//! The stream of the setup that words name.
+//! The streams of the setups that words name.
 
 use crate::weak::word_of;
 use std::alloc::Global;
 use tesla_commit::{Setup, read_setup};
 
-/// The name of the setup for a live command, which the first of these words names, told the command's form. `None` of all other
-/// commands.
-pub fn live_setup<'a>(words: &'a [String], form: Option<&'static str>) -> Option<&'a str> {
-    match words {
-        [command, ..] if is_live(command.as_str()) => word_of("SETUP", words, form),
+/// The names of the setups with which a live command begins and ends: both are the same where it has one.
+#[derive(Clone, Copy, Debug)]
+pub struct LiveSetups<'a> {
+    /// The setup of the first stream.
+    pub first: &'a str,
+    /// The setup of the last stream.
+    pub last: &'a str,
+}
+
+/// The names of the setups for a live command, which the first of these words names, told the command's form: those of the list of
+/// a feed, and else the one. `None` of all other commands.
+pub fn live_setups<'a>(words: &'a [String], form: Option<&'static str>) -> Option<LiveSetups<'a>> {
+    let [command, ..] = words else {
+        return None;
+    };
+    match command.as_str() {
+        "feed" => Some(ends_of(word_of("SETUPS", words, form)?)),
+        "receive" | "record" | "watch" => {
+            let name = word_of("SETUP", words, form)?;
+            Some(LiveSetups {
+                first: name,
+                last: name,
+            })
+        }
         _ => None,
     }
 }
 
-// Whether the command of this name runs over a live stream with a setup.
-fn is_live(command: &str) -> bool {
-    matches!(command, "feed" | "receive" | "record" | "watch")
+// The first and the last name of a list.
+fn ends_of(list: &str) -> LiveSetups<'_> {
+    let (first, _) = list.split_once(',').unwrap_or((list, ""));
+    let (_, last) = list.rsplit_once(',').unwrap_or(("", list));
+    LiveSetups { first, last }
 }
 
 /// The number of the stream of the setup that a text spells, and the microseconds since 1970 at which it begins and at which its last

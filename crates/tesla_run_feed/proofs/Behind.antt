@@ -6,8 +6,8 @@ use Rattle.tesla_desk.specs.Faults.{Faults, HasCauses}
 use Rattle.tesla_desk.specs.Outside.{OfSink, Opening, Page, Told, page_of}
 use Rattle.tesla_desk.proofs.Counts.{cause_none, causes_sink, counts_stay}
 use Rattle.tesla_desk.proofs.Told.{first_written}
-use Rattle.tesla_feed.specs.Notes.{Note}
-use Rattle.tesla_feed.specs.declared.counts.FeedCounts.{FeedCounts}
+use Rattle.tesla_feeds.specs.Notes.{Note}
+use Rattle.tesla_feeds.specs.declared.events.FeedsCounts.{FeedsCounts}
 use Rattle.tesla_front.specs.Files.{HasFailed}
 use Rattle.tesla_front.specs.Openings.{AnyFailed, Opens, files_told, name_of}
 use Rattle.tesla_front.specs.declared.fault.Fault.{Fault}
@@ -36,7 +36,7 @@ last_behind [] file told = refl
 last_behind (first ∷ []) file told = refl
 last_behind (first ∷ other ∷ files) file told = last_behind (other ∷ files) file told
 
-module _ (times : Times) (every opening : ℕ) (notes : List Note) (counts : FeedCounts) where
+module _ (times : List Times) (every opening : ℕ) (notes : List Note) (counts : FeedsCounts) where
   abbrev all_text : List Line → SystemCounts → List ℕ
   all_text lines system = flat_map (line_text times) lines ++ end_line times system (record { reading = last_reading opening notes; counts = counts })
 
@@ -65,7 +65,7 @@ failed_page (Some bytes) count some = some
 -- ---- STATUS was opened, written and closed
 
 -- what is known of that, told the files that were all opened before
-pub record Behind (files : List Opening) (status : Option StatusArguments) (times : Times) (opening : ℕ) (counts : FeedCounts) (before now : Told) (failed : Bool) (notes : List Note) : Type 0 where
+pub record Behind (files : List Opening) (status : Option StatusArguments) (times : List Times) (opening : ℕ) (counts : FeedsCounts) (before now : Told) (failed : Bool) (notes : List Note) : Type 0 where
   pub live : now.live ≡ before.live
   pub opens : (first : Told) → Opens files (length files) first before → Opens (files ++ status_files status) (length (files ++ status_files status)) first now
   pub own : HasCauses before.faults now.faults ⊥ (failed ≡ true) ⊥
@@ -73,7 +73,7 @@ pub record Behind (files : List Opening) (status : Option StatusArguments) (time
   pub any : (later : Told) → ((name : List ℕ) → later.page name ≡ now.page name) → failed ≡ true → AnyFailed (status_files status) later
   pub holds : (later : Told) (others : List Opening) → ((name : List ℕ) → later.page name ≡ now.page name) → HoldsStatus status times opening notes counts failed (last_page (files_told later (others ++ status_files status)))
 
-pub status_behind : (files : List Opening) (status : Option StatusArguments) (times : Times) (opening : ℕ) (counts : FeedCounts) (before now : Told) (failed : Bool) (notes : List Note) → WritesStatus status times opening counts before now failed notes → Behind files status times opening counts before now failed notes
+pub status_behind : (files : List Opening) (status : Option StatusArguments) (times : List Times) (opening : ℕ) (counts : FeedsCounts) (before now : Told) (failed : Bool) (notes : List Note) → WritesStatus status times opening counts before now failed notes → Behind files status times opening counts before now failed notes
 status_behind files None times opening counts before now failed notes (same, none) =
     let never : failed ≡ true → ⊥ = λ is. absurd (let clash : true ≡ false = sym is ∙ none in cc) in
     record {

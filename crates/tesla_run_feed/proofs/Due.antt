@@ -1,18 +1,23 @@
 -- What may be sent and written, once all was opened.
-use Rattle.std.proofs.Common.{◌≡◌, ◌≢◌, codes, ℕ, Bool, true, Ok, List, [], ◌∷◌, map, Option, Some, None, refl, sym, subst}
+use Rattle.std.proofs.Common.{◌≡◌, ◌≢◌, codes, ℕ, Bool, true, Ok, List, [], ◌∷◌, map, Option, Some, None, append-nil, refl, sym, subst}
 use Rattle.tesla_desk.specs.Clocks.{Ticking}
-use Rattle.tesla_desk.specs.Outside.{Page, Told}
-use Rattle.tesla_feed.specs.Due.{AreUnsent, MaySendDue}
-use Rattle.tesla_feed.specs.declared.opening.OpenFeed.{OpenFeed}
+use Rattle.tesla_desk.specs.Outside.{Opening, Page, Told}
+use Rattle.tesla_feed.specs.Due.{AreUnsent}
+use Rattle.tesla_feeds.specs.Due.{MaySendDue}
+use Rattle.tesla_feeds.specs.Fed.{lasting}
+use Rattle.tesla_feeds.specs.Opening.{streams_fed}
+use Rattle.tesla_feeds.specs.declared.opening.OpenFeeds.{OpenFeeds}
 use Rattle.tesla_relay.specs.Opened.{AreFresh, post_name}
 use Rattle.tesla_relay.specs.Posts.{PostSeen}
 use Rattle.tesla_relay.proofs.Openings.{opens_new}
-use Rattle.tesla_front.specs.Openings.{file_told}
-use Rattle.tesla_run_feed.specs.Arguments.{FeedArguments, StatusArguments}
-use Rattle.tesla_run_feed.specs.Due.{IsCountedFor, IsFedFrom, IsStatusLine, MayWriteCounts}
-use Rattle.tesla_run_feed.specs.Steps.{OpensFeeding}
-use Rattle.tesla_run_send.specs.Sender.{IsFoundIn, IsStreamIn}
-use Rattle.tesla_seeds.specs.Weak.{AreSound}
+use Rattle.tesla_front.specs.Openings.{files_told}
+use Rattle.tesla_run_feed.specs.Arguments.{FeedArguments, StatusArguments, sources_of}
+use Rattle.tesla_run_feed.specs.Due.{AreListedIn, IsCountedFor, IsFedFrom, IsStatusLine, MaySendLasting, MayWriteCounts, MayWriteLasting}
+use Rattle.tesla_run_feed.specs.Feeding.{AreSoundIn, pages_of}
+use Rattle.tesla_run_feed.specs.Listing.{AreRight, all_times}
+use Rattle.tesla_run_feed.specs.Steps.{OpensFeeding, ReadsList}
+use Rattle.tesla_run_feed.proofs.Listed.{each_found, sources_same}
+use Rattle.tesla_clock.specs.Schedule.{Times}
 use Rattle.tesla_sender.specs.Made.{Stream}
 
 -- new posts sent nothing
@@ -21,23 +26,33 @@ fresh_unsent [] fresh = tt
 fresh_unsent (post ∷ posts) fresh = (fresh.0.0, fresh_unsent posts fresh.1)
 
 -- the posts of a feed that was opened
-pub ready_unsent : (stream : Stream) (names : List (List ℕ)) (feed : OpenFeed) (ticking : Option Ticking)
-    (posts : List PostSeen) (before now : Told) → OpensFeeding stream names feed ticking posts (Ok tt) before now
+pub ready_unsent : (streams : List Stream) (names : List (List ℕ)) (feed : OpenFeeds) (ticking : Option Ticking)
+    (posts : List PostSeen) (before now : Told) → OpensFeeding streams names feed ticking posts (Ok tt) before now
     → AreUnsent posts
-ready_unsent stream names feed ticking posts before now ready =
+ready_unsent streams names feed ticking posts before now ready =
     fresh_unsent posts (opens_new names ready.clocked now posts (Ok tt) ready.posts_open).fresh
 
--- may send what is due of its stream
+-- may send what is due of its streams
 pub ready_due : {P : Type 0} (seen : P → PostSeen) (may_send : P → List ℕ → Bool) (gave : ℕ → Bool)
-    (read_for : ℕ → List ℕ → ℕ → Bool) (stream : Stream) (names : List (List ℕ)) (feed : OpenFeed) (ticking : Option Ticking)
-    (posts : List PostSeen) (before now : Told) → OpensFeeding stream names feed ticking posts (Ok tt) before now
-    → MaySendDue seen may_send gave read_for names stream
-    → MaySendDue seen may_send gave read_for (map post_name posts) feed.sender.stream
-ready_due seen may_send gave read_for stream names feed ticking posts before now ready due =
+    (read_for : ℕ → List ℕ → ℕ → Bool) (streams : List Stream) (names : List (List ℕ)) (feed : OpenFeeds) (ticking : Option Ticking)
+    (posts : List PostSeen) (before now : Told) → OpensFeeding streams names feed ticking posts (Ok tt) before now
+    → gave feed.opening ≡ true → MaySendLasting seen may_send gave read_for names streams
+    → MaySendDue seen may_send gave read_for (map post_name posts) (streams_fed feed.feeders)
+ready_due seen may_send gave read_for streams names feed ticking posts before now ready given due =
     let same = ((opens_new names ready.clocked now posts (Ok tt) ready.posts_open).whole refl).names_are in
-    let own : MaySendDue seen may_send gave read_for names feed.sender.stream =
-    subst (λ (s : Stream). MaySendDue seen may_send gave read_for names s) (sym ready.opens.opens.2) due in
-    subst (λ (ns : List (List ℕ)). MaySendDue seen may_send gave read_for ns feed.sender.stream) (sym same) own
+    let own : MaySendDue seen may_send gave read_for names (streams_fed feed.feeders) =
+    subst (λ (ss : List Stream). MaySendDue seen may_send gave read_for names ss) (sym ready.opens.opens.1) (due feed.opening given) in
+    subst (λ (ns : List (List ℕ)). MaySendDue seen may_send gave read_for ns (streams_fed feed.feeders)) (sym same) own
+
+-- and may write the counts of these
+pub ready_counted : {S : Type 0} (name : S → List ℕ) (written : S → Option (List ℕ)) (may_write : S → List ℕ → Bool) (gave : ℕ → Bool)
+    (read_for : ℕ → List ℕ → ℕ → Bool) (status : Option StatusArguments) (streams : List Stream) (times : List Times) (names : List (List ℕ)) (feed : OpenFeeds)
+    (ticking : Option Ticking) (posts : List PostSeen) (before now : Told) → OpensFeeding streams names feed ticking posts (Ok tt) before now
+    → gave feed.opening ≡ true → times ≡ all_times streams → MayWriteLasting name written may_write gave read_for status streams
+    → MayWriteCounts name written may_write gave read_for status times (streams_fed feed.feeders)
+ready_counted name written may_write gave read_for status streams times names feed ticking posts before now ready given times_are counted =
+    subst (λ (ts : List Times). MayWriteCounts name written may_write gave read_for status ts (streams_fed feed.feeders)) (sym times_are)
+    (subst (λ (ss : List Stream). MayWriteCounts name written may_write gave read_for status (all_times streams) ss) (sym ready.opens.opens.1) (counted feed.opening given))
 
 -- what is due by what the desk tells is due by what it told before, where the pages of all files are the same, as
 -- where only the console was opened
@@ -48,36 +63,52 @@ pub due_before : (gave : ℕ → Bool) (read_for : ℕ → List ℕ → ℕ → 
 due_before gave read_for words before now name sent datagram same due =
     let arguments = due.arguments in
     let fed = due.fed in
-    let setup : now.page arguments.setup ≡ before.page arguments.setup =
-    same arguments.setup due.form.spelled.rest.first.0.file in
-    let secret : now.page arguments.secret ≡ before.page arguments.secret =
-    same arguments.secret due.form.spelled.rest.rest.first.0.file in
-    let own : IsFoundIn (before.page arguments.setup) (now.page arguments.secret) fed.stream =
-    subst (λ (page : Page). IsFoundIn page (now.page arguments.secret) fed.stream) setup fed.is.found in
-    let found : IsFoundIn (before.page arguments.setup) (before.page arguments.secret) fed.stream =
-    subst (λ (page : Page). IsFoundIn (before.page arguments.setup) page fed.stream) secret own in
+    let listed = fed.left.listed in
+    let pages : pages_of (files_told now (sources_of arguments)) ≡ pages_of (files_told before (sources_of arguments)) =
+    sources_same arguments words before now due.form same in
     record {
       arguments = arguments;
       form = due.form;
       fed = record {
         named = fed.named;
-        stream = fed.stream;
-        is = record { found = found; right = fed.is.right };
-        sound = fed.sound;
+        streams = fed.streams;
+        going = fed.going;
+        left = record {
+          listed = record {
+            found = subst (λ (ps : List Page). AreSoundIn arguments.setups ps fed.streams) pages listed.found;
+            right = listed.right;
+            fits = listed.fits;
+          };
+          from = fed.left.from;
+          given = fed.left.given;
+          going_is = fed.left.going_is;
+        };
         due = fed.due;
       };
     }
 
 -- ---- what may be written to STATUS
 
--- what may be written for the words may be of this stream
-may_write_by : {S : Type 0} (name : S → List ℕ) (written : S → Option (List ℕ)) (may_write : S → List ℕ → Bool) (gave : ℕ → Bool) (read_for : ℕ → List ℕ → ℕ → Bool) (status : Option StatusArguments) (stream : Stream)
-    → ((it : S) (piece : List ℕ) → IsStatusLine gave read_for status stream (name it) (written it) piece → may_write it piece ≡ true) → MayWriteCounts name written may_write gave read_for status stream
-may_write_by name written may_write gave read_for None stream may = tt
-may_write_by name written may_write gave read_for (Some status) stream may = λ it piece named counted. may it piece (named, counted)
+-- what may be written for the words may be of these streams
+may_write_by : {S : Type 0} (name : S → List ℕ) (written : S → Option (List ℕ)) (may_write : S → List ℕ → Bool) (gave : ℕ → Bool) (read_for : ℕ → List ℕ → ℕ → Bool) (status : Option StatusArguments) (times : List Times) (streams : List Stream)
+    → ((it : S) (piece : List ℕ) → IsStatusLine gave read_for status times streams (name it) (written it) piece → may_write it piece ≡ true) → MayWriteCounts name written may_write gave read_for status times streams
+may_write_by name written may_write gave read_for None times streams may = tt
+may_write_by name written may_write gave read_for (Some status) times streams may = λ it piece named counted. may it piece (named, counted)
 
-pub may_write_counts : {S : Type 0} (name : S → List ℕ) (written : S → Option (List ℕ)) (may_write : S → List ℕ → Bool) (gave : ℕ → Bool) (read_for : ℕ → List ℕ → ℕ → Bool) (arguments : FeedArguments) (told : Told) (stream : Stream)
-    → IsStreamIn (file_told told arguments.setup) (file_told told arguments.secret) stream → AreSound stream.seeds
-    → ((it : S) (piece : List ℕ) → IsCountedFor gave read_for arguments told (name it) (written it) piece → may_write it piece ≡ true) → MayWriteCounts name written may_write gave read_for arguments.status stream
-may_write_counts name written may_write gave read_for arguments told stream is sound may =
-    may_write_by name written may_write gave read_for arguments.status stream (λ it piece line. may it piece (record { stream = stream; is = is; sound = sound; line = line }))
+pub may_write_counts : {S : Type 0} (name : S → List ℕ) (written : S → Option (List ℕ)) (may_write : S → List ℕ → Bool) (gave : ℕ → Bool) (read_for : ℕ → List ℕ → ℕ → Bool) (arguments : FeedArguments) (told : Told) (streams : List Stream)
+    → AreListedIn told arguments streams
+    → ((it : S) (piece : List ℕ) → IsCountedFor gave read_for arguments told (name it) (written it) piece → may_write it piece ≡ true) → MayWriteLasting name written may_write gave read_for arguments.status streams
+may_write_counts name written may_write gave read_for arguments told streams listed may = λ from given.
+    may_write_by name written may_write gave read_for arguments.status (all_times streams) (lasting from streams)
+    (λ it piece line. may it piece (record { streams = streams; going = lasting from streams; left = record { listed = listed; from = from; given = given; going_is = refl }; line = line }))
+
+-- ---- the list
+
+-- a list that was read is told by the desk
+pub listed_in : (arguments : FeedArguments) (streams : List Stream) (before now : Told) → ReadsList arguments.setups arguments.secrets streams before now → AreRight streams → AreListedIn before arguments streams
+listed_in arguments streams before now read right = record {
+  found = subst (λ (files : List Opening). AreSoundIn arguments.setups (pages_of (files_told before files)) streams) (append-nil (sources_of arguments))
+      (each_found arguments.setups arguments.secrets [] streams before now read.reads);
+  right = right;
+  fits = read.fits;
+}

@@ -2,25 +2,28 @@
 use Rattle.std.proofs.Common.{◌≡◌, ◌∙◌, ◌⊎◌, inl, inr, ℕ, suc, ◌≤◌, nat_lt, ◌||◌, Bool, true, false, Ok, Err, List, [], ◌∷◌, ◌++◌, map, length, Option, Some, None, IfSome, refl, sym, ap, subst, arith, append_assoc}
 use Rattle.std.proofs.lemmas.Bool.{or_cases, or_left, or_right}
 use Rattle.std.specs.List.{AllByRecursion}
-use Rattle.std.proofs.lemmas.List.{length-map}
+use Rattle.std.proofs.lemmas.List.{length-append, length-map}
 use Rattle.std.specs.Option.{option_map}
 use Rattle.tesla_desk.specs.Clocks.{Gives, Ticking}
 use Rattle.tesla_desk.specs.Faults.{Faults, HasCause, HasCausesBeside, after_source, raised}
 use Rattle.tesla_desk.specs.Live.{LeavesAll, Live, OpenedLink, Remainder, Wire, clock_told, mail_of, remainder_of}
-use Rattle.tesla_desk.specs.Outside.{ClosesLink, MakesClock, OfLink, OfPost, OfSink, OfSource, Opening, OpensLink, Told}
+use Rattle.tesla_desk.specs.Outside.{ClosesLink, MakesClock, OfLink, OfPost, OfSink, Opening, OpensLink, Told}
 use Rattle.tesla_desk.specs.declared.desk.OpenRefusal.{OpenRefusal}
 use Rattle.tesla_desk.specs.declared.desk.OpenRefusal.TheVariants as refusals
 use Rattle.tesla_desk.specs.declared.link.Letter.{Letter}
 use Rattle.tesla_desk.proofs.Told.{leaves_all}
 use Rattle.tesla_desk.proofs.Counts.{cause_both, cause_none, causes_plain, causes_source, causes_then, counts_stay}
-use Rattle.tesla_feed.specs.Fed.{datagrams_of, has_ended, reading_of}
-use Rattle.tesla_feed.specs.Feed.{ComesTo, Feeds, OpensAt, StopsEarly, events_of, letter_of, rested_at}
-use Rattle.tesla_feed.specs.Notes.{Note, notes_of}
-use Rattle.tesla_feed.specs.declared.counts.FeedCounts.{FeedCounts}
-use Rattle.tesla_feed.specs.declared.feeding.FeedEnd.{FeedEnd}
+use Rattle.tesla_feed.specs.Fed.{reading_of}
+use Rattle.tesla_feed.specs.Feed.{OpensAt, events_of, letter_of, rested_at}
+use Rattle.tesla_feeds.specs.Fed.{lasting}
+use Rattle.tesla_feeds.specs.Feeds.{ComesTo, Feeds, StopsEarly}
+use Rattle.tesla_feeds.specs.Notes.{Note, notes_of}
+use Rattle.tesla_feeds.specs.Opening.{first_lasts}
+use Rattle.tesla_feeds.specs.declared.events.FeedsCounts.{FeedsCounts}
+use Rattle.tesla_feeds.specs.declared.feeding.FeedsEnd.{FeedsEnd}
 use Rattle.tesla_front.specs.OutcomeView.{OutcomeView, Failed}
 use Rattle.tesla_front.specs.Fault.{unopened}
-use Rattle.tesla_front.specs.Openings.{AnyFailed, IsAmong, Opens}
+use Rattle.tesla_front.specs.Openings.{AnyFailed, IsAmong, Opens, files_told}
 use Rattle.tesla_front.specs.declared.fault.Fault.{Fault}
 use Rattle.tesla_front.specs.declared.fault.Fault.TheVariants as faults
 use Rattle.tesla_front.proofs.Openings.{opens_first, opens_none, opens_then}
@@ -37,15 +40,15 @@ use Rattle.tesla_relay.proofs.Links.{left_where}
 use Rattle.tesla_relay.proofs.Mails.{faulty_told, unsent_on}
 use Rattle.tesla_relay.proofs.Openings.{none_of_opened, opens_new, opens_still, refused_not_all}
 use Rattle.tesla_relay.proofs.Stopped.{outcome_cause, memory_counts, not_all_counts}
-use Rattle.tesla_run_feed.specs.Arguments.{FeedArguments, IsFeedForm, files_of_feed, live_files, status_files}
-use Rattle.tesla_run_feed.specs.Feeding.{EndsAs, FeedsLink, FeedsOrEnds, FindsEnd, FindsOver, HoldsStatus, SendPosts, TouchesLive, status_page}
-use Rattle.tesla_run_feed.specs.Lines.{outcome_with, stream_over}
+use Rattle.tesla_run_feed.specs.Arguments.{FeedArguments, IsFeedForm, files_of_feed, live_files, sources_of, status_files}
+use Rattle.tesla_run_feed.specs.Feeding.{EndsAs, FeedsLink, FeedsOrEnds, FindsEnd, FindsOver, HoldsStatus, LackSenders, SendPosts, TouchesLive, last_page, status_page}
+use Rattle.tesla_run_feed.specs.Lines.{outcome_with, streams_over}
+use Rattle.tesla_run_feed.specs.Listing.{AreRight, all_times, are_several}
 use Rattle.tesla_run_feed.specs.Steps.{FeedsFiles, FeedsReady, LacksSender, RefusesStatus, RunsLinked, TriesToFeed, WritesStatus}
 use Rattle.tesla_front.proofs.Behind.{failed_back, failed_prefix, opens_prefix}
 use Rattle.tesla_run_feed.proofs.Behind.{Behind, RefusedBehind, last_same, refused_behind, status_behind}
 use Rattle.tesla_run_feed.proofs.Ended.{end_read, ends_by, failed_either, no_open, read_end, write_end}
 use Rattle.tesla_run_feed.proofs.Mailed.{each_reported, faulty_marked, marked_faulty, names_kept, sends_posts}
-use Rattle.tesla_run_send.specs.Sender.{IsNoSender, wrong_line}
 use Rattle.tesla_run_send.proofs.Sender.{no_sender_fault}
 use Rattle.tesla_sender.specs.Made.{Stream}
 
@@ -77,8 +80,8 @@ touches_nothing link posts before now same = record {
 }
 
 -- there was no room for the posts
-pub fed_roomless : (over : Bool) (stream : Stream) (arguments : FeedArguments) (told : Told) → FeedsFiles over stream arguments told told (Failed faults.NoMemory)
-fed_roomless over stream arguments told = record {
+pub fed_roomless : (over : Bool) (streams : List Stream) (arguments : FeedArguments) (told : Told) → FeedsFiles over streams arguments told told (Failed faults.NoMemory)
+fed_roomless over streams arguments told = record {
   opened = 0;
   opens = opens_none (live_files arguments) told told refl (λ name. refl) (λ name. refl);
   touches = touches_nothing arguments.link arguments.posts told.live told.live refl;
@@ -93,11 +96,11 @@ link_asked : {A : Type 0} (link : List ℕ) (files : List Opening) (refusal : Op
 link_asked link files refusals.Failed before now tried = (1, omega arith, opens_first (OfLink link) files before now tried.asked (λ name none. tried.pages name) (λ name none. tried.lefts name))
 link_asked link files refusals.NoMemory before now tried = (0, omega arith, opens_none (OfLink link ∷ files) before now tried.asked tried.pages tried.lefts)
 
-pub fed_unlinked : {A : Type 0} (over : Bool) (stream : Stream) (arguments : FeedArguments) (refusal : OpenRefusal) (fault : Fault) (before now : Told) → fault ≡ unopened refusal → OpensLink {A = A} arguments.link (Err refusal) before now → FeedsFiles over stream arguments before now (Failed fault)
-fed_unlinked {A} over stream arguments refusal fault before now is tried =
+pub fed_unlinked : {A : Type 0} (over : Bool) (streams : List Stream) (arguments : FeedArguments) (refusal : OpenRefusal) (fault : Fault) (before now : Told) → fault ≡ unopened refusal → OpensLink {A = A} arguments.link (Err refusal) before now → FeedsFiles over streams arguments before now (Failed fault)
+fed_unlinked {A} over streams arguments refusal fault before now is tried =
     let it = link_asked {A = A} arguments.link (files_behind arguments) refusal before now tried in
     let not_all = refused_not_all {A = A} refusal before now tried.counts in
-    subst (λ (f : Fault). FeedsFiles over stream arguments before now (Failed f)) (sym is) (record {
+    subst (λ (f : Fault). FeedsFiles over streams arguments before now (Failed f)) (sym is) (record {
       opened = it.0;
       opens = it.2;
       touches = touches_nothing arguments.link arguments.posts before.live now.live tried.live;
@@ -120,7 +123,7 @@ gives_all unread opening early later before mid after gives others =
 -- ---- a refused stream
 
 -- no count rises
-over_counts : {hidden : Type 0} (before now : Faults) → now ≡ before → HasCausesBeside hidden before now (stream_over ≡ Failed faults.Read) (stream_over ≡ Failed faults.Write) (stream_over ≡ Failed faults.Open)
+over_counts : {hidden : Type 0} (before now : Faults) → now ≡ before → HasCausesBeside hidden before now (streams_over ≡ Failed faults.Read) (streams_over ≡ Failed faults.Write) (streams_over ≡ Failed faults.Open)
 over_counts {hidden} before now same = causes_plain {hidden = hidden} before now (record {
   reads = cause_none before.reads now.reads (ap (λ (f : Faults). f.reads) same) (λ e. absurd cc);
   writes = cause_none before.writes now.writes (ap (λ (f : Faults). f.writes) same) (λ e. absurd cc);
@@ -136,16 +139,22 @@ left_unheard wire left later missed now opened own left_is missed_is =
 
 -- ---- there was no sender, and the link was closed
 
+-- why there are no senders is no fault but want of memory
+lack_fault : (streams : List Stream) (outcome : OutcomeView) (fault : Fault) → LackSenders streams outcome → (fault ≡ faults.NoMemory → ⊥) → outcome ≡ Failed fault → ⊥
+lack_fault [] outcome fault none other e = let memory : fault ≡ faults.NoMemory = cc in other memory
+lack_fault (stream ∷ streams) outcome fault (inl why) other e = no_sender_fault stream outcome fault why other e
+lack_fault (stream ∷ streams) outcome fault (inr (right, more)) other e = lack_fault streams outcome fault more other e
+
 -- no count rises
-lacks_counts : {hidden : Type 0} (stream : Stream) (outcome : OutcomeView) (before now : Faults) → IsNoSender stream outcome → now ≡ before → HasCausesBeside hidden before now (outcome ≡ Failed faults.Read) (outcome ≡ Failed faults.Write) (outcome ≡ Failed faults.Open)
-lacks_counts {hidden} stream outcome before now why same = causes_plain {hidden = hidden} before now (record {
-  reads = cause_none before.reads now.reads (ap (λ (f : Faults). f.reads) same) (no_sender_fault stream outcome faults.Read why (λ e. cc));
-  writes = cause_none before.writes now.writes (ap (λ (f : Faults). f.writes) same) (no_sender_fault stream outcome faults.Write why (λ e. cc));
-  openings = cause_none before.openings now.openings (ap (λ (f : Faults). f.openings) same) (no_sender_fault stream outcome faults.Open why (λ e. cc));
+lacks_counts : {hidden : Type 0} (streams : List Stream) (outcome : OutcomeView) (before now : Faults) → LackSenders streams outcome → now ≡ before → HasCausesBeside hidden before now (outcome ≡ Failed faults.Read) (outcome ≡ Failed faults.Write) (outcome ≡ Failed faults.Open)
+lacks_counts {hidden} streams outcome before now why same = causes_plain {hidden = hidden} before now (record {
+  reads = cause_none before.reads now.reads (ap (λ (f : Faults). f.reads) same) (lack_fault streams outcome faults.Read why (λ e. cc));
+  writes = cause_none before.writes now.writes (ap (λ (f : Faults). f.writes) same) (lack_fault streams outcome faults.Write why (λ e. cc));
+  openings = cause_none before.openings now.openings (ap (λ (f : Faults). f.openings) same) (lack_fault streams outcome faults.Open why (λ e. cc));
 })
 
-module _ (over : Bool) (stream : Stream) (arguments : FeedArguments) (left : Option (List Letter)) (before linked tried closed now : Told) (outcome : OutcomeView) (link_opened : OpenedLink (before.live.wire arguments.link) left) (link_live : linked.live ≡ before.live) (link_counts : linked.faults ≡ before.faults) (link_opens : Opens (OfLink arguments.link ∷ []) 1 before linked) (posts : List PostSeen) (later : Option (List Letter)) (missed : ℕ)
-    (posts_closed : ClosesPosts posts tried closed) (link_closed : ClosesLink arguments.link later missed closed now) (lacks : LacksSender stream posts linked tried outcome) (left_is : later ≡ left) (missed_is : missed ≡ 0) where
+module _ (over : Bool) (streams : List Stream) (arguments : FeedArguments) (left : Option (List Letter)) (before linked tried closed now : Told) (outcome : OutcomeView) (link_opened : OpenedLink (before.live.wire arguments.link) left) (link_live : linked.live ≡ before.live) (link_counts : linked.faults ≡ before.faults) (link_opens : Opens (OfLink arguments.link ∷ []) 1 before linked) (posts : List PostSeen) (later : Option (List Letter)) (missed : ℕ)
+    (posts_closed : ClosesPosts posts tried closed) (link_closed : ClosesLink arguments.link later missed closed now) (lacks : LacksSender streams posts linked tried outcome) (left_is : later ≡ left) (missed_is : missed ≡ 0) where
   senderless_closes : ClosesTo posts tried closed
   senderless_closes = closes_to posts tried closed posts_closed
 
@@ -171,7 +180,7 @@ module _ (over : Bool) (stream : Stream) (arguments : FeedArguments) (left : Opt
       link_closed.counts ∙ ap (λ (n : ℕ). after_source closed.faults n) missed_is ∙ fresh_counts posts tried closed fresh senderless_closes
       ∙ ap (λ (t : Told). t.faults) lacks.same ∙ link_counts
 
-  fed_senderless : FeedsFiles over stream arguments before now outcome
+  fed_senderless : FeedsFiles over streams arguments before now outcome
   fed_senderless =
       let closes = senderless_closes in
       record {
@@ -192,12 +201,12 @@ module _ (over : Bool) (stream : Stream) (arguments : FeedArguments) (left : Opt
             why = lacks.why;
           },
         ));
-        counts = lacks_counts stream outcome before.faults now.faults lacks.why senderless_faults;
+        counts = lacks_counts streams outcome before.faults now.faults lacks.why senderless_faults;
       }
 
 -- ---- a link that was opened, and closed behind the clock and the posts
 
-module _ (over : Bool) (stream : Stream) (arguments : FeedArguments) (left : Option (List Letter)) (before linked clocked now : Told) (link_opened : OpenedLink (before.live.wire arguments.link) left) (link_live : linked.live ≡ before.live) (link_counts : linked.faults ≡ before.faults) (link_opens : Opens (OfLink arguments.link ∷ []) 1 before linked) (ticking : Option Ticking) (makes : MakesClock linked clocked)
+module _ (over : Bool) (streams : List Stream) (arguments : FeedArguments) (left : Option (List Letter)) (before linked clocked now : Told) (link_opened : OpenedLink (before.live.wire arguments.link) left) (link_live : linked.live ≡ before.live) (link_counts : linked.faults ≡ before.faults) (link_opens : Opens (OfLink arguments.link ∷ []) 1 before linked) (ticking : Option Ticking) (makes : MakesClock linked clocked)
     (posts : List PostSeen) (tried closed : Told) (later : Option (List Letter)) (missed : ℕ) (posts_closed : ClosesPosts posts tried closed) (link_closed : ClosesLink arguments.link later missed closed now) where
   closes : ClosesTo posts tried closed
   closes = closes_to posts tried closed posts_closed
@@ -250,47 +259,76 @@ module _ (over : Bool) (stream : Stream) (arguments : FeedArguments) (left : Opt
     all_faults : AreFresh posts → now.faults ≡ tried.faults
     all_faults fresh = link_closed.counts ∙ ap (λ (n : ℕ). after_source closed.faults n) same.1 ∙ fresh_counts posts tried closed fresh closes
 
-  -- ---- the stream was over
+  -- ---- no post was asked for
 
-  module _ (opening : ℕ) (opens_at : OpensAt opening (clock_told before.live.readings before.live.made) ticking) (right : wrong_line stream ≡ None) (ended : has_ended stream opening ≡ true) (none : posts ≡ []) (same : tried ≡ clocked) (unheard : (later ≡ left) × (missed ≡ 0)) where
-    over_fresh : AreFresh posts
-    over_fresh = subst AreFresh (sym none) tt
+  module _ (none : posts ≡ []) (same : tried ≡ clocked) where
+    none_fresh : AreFresh posts
+    none_fresh = subst AreFresh (sym none) tt
 
-    over_live : tried.live ≡ clocked.live
-    over_live = ap (λ (t : Told). t.live) same
+    none_live : tried.live ≡ clocked.live
+    none_live = ap (λ (t : Told). t.live) same
 
-    over_opens : Opens (files_behind arguments) 0 clocked tried
-    over_opens = opens_none (files_behind arguments) clocked tried (ap (λ (t : Told). t.openings) same) (λ name. ap (λ (t : Told). t.page name) same) (λ name. ap (λ (t : Told). t.left name) same)
+    none_opens : Opens (files_behind arguments) 0 clocked tried
+    none_opens = opens_none (files_behind arguments) clocked tried (ap (λ (t : Told). t.openings) same) (λ name. ap (λ (t : Told). t.page name) same) (λ name. ap (λ (t : Told). t.left name) same)
 
-    over_none : (name : List ℕ) → IsNoneOf name (map post_name posts)
-    over_none name = subst (λ (ps : List PostSeen). IsNoneOf name (map post_name ps)) (sym none) tt
+    none_named : (name : List ℕ) → IsNoneOf name (map post_name posts)
+    none_named name = subst (λ (ps : List PostSeen). IsNoneOf name (map post_name ps)) (sym none) tt
 
-    over_found : FindsOver arguments stream before.live now.live stream_over
+    none_mails : (name : List ℕ) → now.live.mail name ≡ before.live.mail name
+    none_mails name = link_closed.mails name ∙ closes.others name (none_named name) ∙ ap (λ (l : Live). l.mail name) (at_first none_live)
+
+    none_faults : (later ≡ left) × (missed ≡ 0) → now.faults ≡ before.faults
+    none_faults unheard = all_faults unheard none_fresh ∙ ap (λ (t : Told). t.faults) same ∙ clock_counts
+
+  -- ---- all streams were over
+
+  module _ (opening : ℕ) (opens_at : OpensAt opening (clock_told before.live.readings before.live.made) ticking) (right : AreRight streams) (ended : lasting opening streams ≡ []) (none : posts ≡ []) (same : tried ≡ clocked) (unheard : (later ≡ left) × (missed ≡ 0)) where
+    over_found : FindsOver arguments streams before.live now.live streams_over
     over_found = record {
       unread = opens_at.unread;
       opening = opening;
       clock = read_where (opens_at.unread ++ opening ∷ []) before.live.readings before.live.made ticking opens_at.gives;
-      clock_made = all_made over_live;
+      clock_made = all_made (none_live none same);
       missed = opens_at.missed;
       read = opens_at.read;
       over = ended;
       unheard = all_unheard unheard;
-      unsent = λ name. link_closed.mails name ∙ closes.others name (over_none name) ∙ ap (λ (l : Live). l.mail name) (at_first over_live);
+      unsent = none_mails none same;
       outcome_is = refl;
     }
 
-    fed_over : FeedsFiles over stream arguments before now stream_over
+    fed_over : FeedsFiles over streams arguments before now streams_over
     fed_over = record {
       opened = 1;
-      opens = all_opens 0 over_opens;
-      touches = all_touches over_live (λ name other. over_none name);
+      opens = all_opens 0 (none_opens none same);
+      touches = all_touches (none_live none same) (λ name other. none_named none same name);
       does = inr (inr (right, inr (inl (refl, over_found))));
-      counts = over_counts before.faults now.faults (all_faults unheard over_fresh ∙ ap (λ (t : Told). t.faults) same ∙ clock_counts);
+      counts = over_counts before.faults now.faults (none_faults none same unheard);
     }
+
+  -- ---- there was no memory for the feed
+
+  fed_unheld : AreRight streams → posts ≡ [] → tried ≡ clocked → (later ≡ left) × (missed ≡ 0) → FeedsFiles over streams arguments before now (Failed faults.NoMemory)
+  fed_unheld right none same unheard = record {
+    opened = 1;
+    opens = all_opens 0 (none_opens none same);
+    touches = all_touches (none_live none same) (λ name other. none_named none same name);
+    does = inr (inr (
+      right,
+      inl (record {
+        unheard = all_unheard unheard;
+        unsent = λ name. inl (none_mails none same name);
+        unwritten = status_stays (λ name. ap (λ (t : Told). t.page name) same);
+        made = all_made (none_live none same);
+        cause = inr refl;
+      }),
+    ));
+    counts = memory_counts before.faults now.faults (none_faults none same unheard);
+  }
 
   -- ---- the opening of a post was refused
 
-  module _ (right : wrong_line stream ≡ None) (fault : Fault) (posts_open : OpensPosts arguments.posts clocked tried [] posts (Err fault)) (unheard : (later ≡ left) × (missed ≡ 0)) where
+  module _ (right : AreRight streams) (fault : Fault) (posts_open : OpensPosts arguments.posts clocked tried [] posts (Err fault)) (unheard : (later ≡ left) × (missed ≡ 0)) where
     refused_to : OpensTo arguments.posts posts clocked tried (Err fault)
     refused_to = opens_new arguments.posts clocked tried posts (Err fault) posts_open
 
@@ -302,7 +340,7 @@ module _ (over : Bool) (stream : Stream) (arguments : FeedArguments) (left : Opt
         unsent_on before.live now.live closed.live name (link_closed.mails name)
         (subst (λ (l : Live). (closed.live.mail name ≡ l.mail name) ⊎ IsUnsent (closed.live.mail name)) (at_first refused_to.live) (fresh_mails posts tried closed refused_to.fresh posts_closed name))
 
-    fed_refused : FeedsFiles over stream arguments before now (Failed fault)
+    fed_refused : FeedsFiles over streams arguments before now (Failed fault)
     fed_refused =
         let not_all = refused_to.refused fault refl in
         let hidden = (Failed fault ≡ Failed faults.Read) × AnyFailed (live_files arguments) now in
@@ -326,7 +364,7 @@ module _ (over : Bool) (stream : Stream) (arguments : FeedArguments) (left : Opt
 
   -- ---- all posts were opened
 
-  module _ (right : wrong_line stream ≡ None) (some : 1 ≤ length arguments.posts) (distinct : AreDistinct arguments.posts) (opening : ℕ) (opens_at : OpensAt opening (clock_told before.live.readings before.live.made) ticking) (lasts : has_ended stream opening ≡ false) (fresh : List PostSeen) (opened : Told) (posts_open : OpensPosts arguments.posts clocked opened [] fresh (Ok tt)) where
+  module _ (right : AreRight streams) (some : 1 ≤ length arguments.posts) (distinct : AreDistinct arguments.posts) (opening : ℕ) (opens_at : OpensAt opening (clock_told before.live.readings before.live.made) ticking) (lasts : first_lasts opening (lasting opening streams) ≡ true) (fresh : List PostSeen) (opened : Told) (posts_open : OpensPosts arguments.posts clocked opened [] fresh (Ok tt)) where
     fed_to : OpensTo arguments.posts fresh clocked opened (Ok tt)
     fed_to = opens_new arguments.posts clocked opened fresh (Ok tt) posts_open
 
@@ -353,7 +391,7 @@ module _ (over : Bool) (stream : Stream) (arguments : FeedArguments) (left : Opt
           unsent_on before.live now.live closed.live name (link_closed.mails name)
           (subst (λ (l : Live). (closed.live.mail name ≡ l.mail name) ⊎ IsUnsent (closed.live.mail name)) (at_first lacks_live) (fresh_mails posts tried closed lacks_fresh posts_closed name))
 
-      fed_unstatused : FeedsFiles over stream arguments before now (Failed fault)
+      fed_unstatused : FeedsFiles over streams arguments before now (Failed fault)
       fed_unstatused =
           let asked = lacks_behind.opens clocked fed_first in
           let hidden = (Failed fault ≡ Failed faults.Read) × AnyFailed (live_files arguments) now in
@@ -377,9 +415,9 @@ module _ (over : Bool) (stream : Stream) (arguments : FeedArguments) (left : Opt
 
     -- ---- all were opened
 
-    module _ (end : FeedEnd) (status_failed : Bool) (link_read : HasCause 0 missed (end.link_failed ≡ true)) (notes : List Note) (writes : WritesStatus arguments.status stream.setup.times opening end.counts opened tried status_failed notes) (names_are : map post_name posts ≡ arguments.posts) (marked : AnyFaulty posts → end.post_failed ≡ true) (faulty : end.post_failed ≡ true → AnyFaulty posts) where
-      fed_behind : Behind (map OfPost arguments.posts) arguments.status stream.setup.times opening end.counts opened tried status_failed notes
-      fed_behind = status_behind (map OfPost arguments.posts) arguments.status stream.setup.times opening end.counts opened tried status_failed notes writes
+    module _ (end : FeedsEnd) (status_failed : Bool) (link_read : HasCause 0 missed (end.link_failed ≡ true)) (notes : List Note) (writes : WritesStatus arguments.status (all_times streams) opening end.counts opened tried status_failed notes) (names_are : map post_name posts ≡ arguments.posts) (marked : AnyFaulty posts → end.post_failed ≡ true) (faulty : end.post_failed ≡ true → AnyFaulty posts) where
+      fed_behind : Behind (map OfPost arguments.posts) arguments.status (all_times streams) opening end.counts opened tried status_failed notes
+      fed_behind = status_behind (map OfPost arguments.posts) arguments.status (all_times streams) opening end.counts opened tried status_failed notes writes
 
       fed_live : tried.live ≡ clocked.live
       fed_live = fed_behind.live ∙ fed_to.live
@@ -387,8 +425,12 @@ module _ (over : Bool) (stream : Stream) (arguments : FeedArguments) (left : Opt
       fed_mails : HasMails posts now
       fed_mails = mails_same posts closed now link_closed.mails (closes.mails (subst AreDistinct (sym names_are) distinct))
 
-      fed_status : HoldsStatus arguments.status stream.setup.times opening notes end.counts status_failed (status_page arguments now)
-      fed_status = fed_behind.holds now (OfSource arguments.setup ∷ OfSource arguments.secret ∷ OfLink arguments.link ∷ map OfPost arguments.posts) all_pages
+      fed_status : HoldsStatus arguments.status (all_times streams) opening notes end.counts status_failed (status_page arguments now)
+      fed_status =
+          let linked : List Opening = OfLink arguments.link ∷ map OfPost arguments.posts in
+          subst (λ (files : List Opening). HoldsStatus arguments.status (all_times streams) opening notes end.counts status_failed (last_page (files_told now files)))
+          (append_assoc (sources_of arguments) linked (status_files arguments.status))
+          (fed_behind.holds now (sources_of arguments ++ linked) all_pages)
 
       -- a post or STATUS failed, where that is told
       fed_either : (end.post_failed || status_failed) ≡ true → AnyFaulty posts ⊎ (status_failed ≡ true)
@@ -403,13 +445,13 @@ module _ (over : Bool) (stream : Stream) (arguments : FeedArguments) (left : Opt
       fed_any (inr status) = failed_back (map OfPost arguments.posts) (status_files arguments.status) now (fed_behind.any now all_pages status)
 
       -- the count of reads rose where the link failed, and that of writes where a post or STATUS did
-      fed_causes : HasCausesBeside ((outcome_with end status_failed ≡ Failed faults.Read) × AnyFailed (live_files arguments) now) opened.faults now.faults (outcome_with end status_failed ≡ Failed faults.Read) (outcome_with end status_failed ≡ Failed faults.Write) (outcome_with end status_failed ≡ Failed faults.Open)
+      fed_causes : HasCausesBeside ((outcome_with (are_several (all_times streams)) end status_failed ≡ Failed faults.Read) × AnyFailed (live_files arguments) now) opened.faults now.faults (outcome_with (are_several (all_times streams)) end status_failed ≡ Failed faults.Read) (outcome_with (are_several (all_times streams)) end status_failed ≡ Failed faults.Write) (outcome_with (are_several (all_times streams)) end status_failed ≡ Failed faults.Open)
       fed_causes =
           let write = end.post_failed || status_failed in
           let own = fed_behind.own in
-          let outcome = outcome_with end status_failed in
+          let outcome = outcome_with (are_several (all_times streams)) end status_failed in
           let source = causes_source {read = outcome ≡ Failed faults.Read} {write = ⊥} {opening = ⊥} closed.faults now.faults missed link_closed.counts link_read
-          (λ e. read_end end.link_failed write end.counts e) (λ e. end_read end.link_failed write end.counts e) (λ never. never) (λ never. never) in
+          (λ e. read_end (are_several (all_times streams)) end.link_failed write end.counts e) (λ e. end_read (are_several (all_times streams)) end.link_failed write end.counts e) (λ never. never) (λ never. never) in
           let reads : closed.faults.reads ≡ opened.faults.reads = closes.reads ∙ own.reads.still (λ never. never) in
           let writes_are : now.faults.writes ≡ closed.faults.writes = ap (λ (f : Faults). f.writes) link_closed.counts in
           let openings : now.faults.openings ≡ opened.faults.openings = ap (λ (f : Faults). f.openings) link_closed.counts ∙ closes.openings ∙ own.openings.still (λ never. never) in
@@ -420,47 +462,47 @@ module _ (over : Bool) (stream : Stream) (arguments : FeedArguments) (left : Opt
             reads = subst (λ (n : ℕ). HasCause n now.faults.reads (outcome ≡ Failed faults.Read)) reads source.reads;
             writes = record {
               stays = cause.stays;
-              rose = λ e. cause.rose (fed_either (write_end end.link_failed write end.counts e));
+              rose = λ e. cause.rose (fed_either (write_end (are_several (all_times streams)) end.link_failed write end.counts e));
               still = λ none clear. cause.still (λ either.
-                  elim (failed_either end.link_failed write end.counts (fed_failed either)) [
+                  elim (failed_either (are_several (all_times streams)) end.link_failed write end.counts (fed_failed either)) [
                     | inl read ↦ clear (read, fed_any either)
                     | inr failed ↦ none failed
                   ]);
             };
-            openings = cause_none opened.faults.openings now.faults.openings openings (λ e. no_open end.link_failed write end.counts e);
+            openings = cause_none opened.faults.openings now.faults.openings openings (λ e. no_open (are_several (all_times streams)) end.link_failed write end.counts e);
           }
 
       -- what was done with the link and the posts
-      fed_by : FeedsOrEnds over arguments stream before.live now.live (status_page arguments now) (outcome_with end status_failed) → FeedsFiles over stream arguments before now (outcome_with end status_failed)
+      fed_by : FeedsOrEnds over arguments streams before.live now.live (status_page arguments now) (outcome_with (are_several (all_times streams)) end status_failed) → FeedsFiles over streams arguments before now (outcome_with (are_several (all_times streams)) end status_failed)
       fed_by does =
           record {
             opened = suc (length (files_behind arguments));
             opens = all_opens (length (files_behind arguments)) (fed_behind.opens clocked fed_first);
             touches = all_touches fed_live (λ name none. subst (λ (ns : List (List ℕ)). IsNoneOf name ns) (sym names_are) none);
-            does = inr (inr (right, inr (inr (refl, does))));
+            does = inr (inr (right, inr (inr (sym (length-append (sources_of arguments) (live_files arguments)), does))));
             counts = causes_then before.faults opened.faults now.faults fed_counts fed_causes;
           }
 
-    module _ (end : FeedEnd) (status_failed : Bool) (link_read : HasCause 0 missed (end.link_failed ≡ true)) (after : Option Ticking) where
+    module _ (end : FeedsEnd) (status_failed : Bool) (link_read : HasCause 0 missed (end.link_failed ≡ true)) (after : Option Ticking) where
       -- ---- the link was fed
 
-      module _ (feeds : Feeds stream opening end left later ticking after fresh posts (WritesStatus arguments.status stream.setup.times opening end.counts opened tried status_failed)) where
+      module _ (feeds : Feeds (lasting opening streams) opening end left later ticking after fresh posts (WritesStatus arguments.status (all_times streams) opening end.counts opened tried status_failed)) where
         abbrev ran_notes : List Note
-        ran_notes = notes_of stream opening (map rested_at feeds.early ++ events_of feeds.heard feeds.rests)
+        ran_notes = notes_of (lasting opening streams) opening (map rested_at feeds.early ++ events_of feeds.heard feeds.rests)
 
         ran_names : map post_name posts ≡ arguments.posts
-        ran_names = names_kept (datagrams_of stream feeds.made.log) fresh posts feeds.failed feeds.posts_are ∙ (fed_to.whole refl).names_are
+        ran_names = names_kept feeds.made.frames fresh posts feeds.failed feeds.posts_are ∙ (fed_to.whole refl).names_are
 
         ran_marked : AnyFaulty posts → end.post_failed ≡ true
-        ran_marked any = feeds.some_failed ∙ faulty_marked (datagrams_of stream feeds.made.log) fresh posts feeds.failed fed_to.fresh feeds.posts_are any
+        ran_marked any = feeds.some_failed ∙ faulty_marked feeds.made.frames fresh posts feeds.failed fed_to.fresh feeds.posts_are any
 
         ran_faulty : end.post_failed ≡ true → AnyFaulty posts
-        ran_faulty e = marked_faulty (datagrams_of stream feeds.made.log) fresh posts feeds.failed fed_to.fresh feeds.posts_are (sym feeds.some_failed ∙ e)
+        ran_faulty e = marked_faulty feeds.made.frames fresh posts feeds.failed fed_to.fresh feeds.posts_are (sym feeds.some_failed ∙ e)
 
-        ran_posts : SendPosts (datagrams_of stream feeds.made.log) arguments.posts now.live feeds.failed
+        ran_posts : SendPosts feeds.made.frames arguments.posts now.live feeds.failed
         ran_posts =
-            subst (λ (ns : List (List ℕ)). SendPosts (datagrams_of stream feeds.made.log) ns now.live feeds.failed) ran_names
-            (sends_posts (datagrams_of stream feeds.made.log) fresh posts feeds.failed now fed_to.fresh (fed_mails end status_failed link_read ran_notes feeds.noted ran_names ran_marked ran_faulty) feeds.posts_are)
+            subst (λ (ns : List (List ℕ)). SendPosts feeds.made.frames ns now.live feeds.failed) ran_names
+            (sends_posts feeds.made.frames fresh posts feeds.failed now fed_to.fresh (fed_mails end status_failed link_read ran_notes feeds.noted ran_names ran_marked ran_faulty) feeds.posts_are)
 
         ran_clock : ReadWhere (opens_at.unread ++ opening ∷ feeds.early ++ feeds.begun ∷ map reading_of (events_of feeds.heard feeds.rests)) before.live.readings before.live.made
         ran_clock =
@@ -477,16 +519,16 @@ module _ (over : Bool) (stream : Stream) (arguments : FeedArguments) (left : Opt
         ran_some : 1 ≤ length feeds.failed
         ran_some =
             let size : length feeds.failed ≡ length arguments.posts =
-            each_reported (datagrams_of stream feeds.made.log) fresh posts feeds.failed feeds.posts_are
+            each_reported feeds.made.frames fresh posts feeds.failed feeds.posts_are
             ∙ sym (length-map posts post_name) ∙ ap (λ (ns : List (List ℕ)). length ns) ran_names in
             subst (λ (n : ℕ). 1 ≤ n) (sym size) some
 
-        ran_ends : EndsAs stream (now.live.left arguments.link) feeds.made feeds.failed status_failed (outcome_with end status_failed)
+        ran_ends : EndsAs (are_several (all_times streams)) (now.live.left arguments.link) feeds.made feeds.failed status_failed (outcome_with (are_several (all_times streams)) end status_failed)
         ran_ends =
-            subst (λ (r : Option Remainder). EndsAs stream r feeds.made feeds.failed status_failed (outcome_with end status_failed)) (sym link_closed.own)
-            (ends_by stream end.link_failed (end.post_failed || status_failed) end.counts feeds.made feeds.failed status_failed later missed link_read ran_some feeds.keys_disclosed feeds.ended feeds.counts (ap (λ (b : Bool). b || status_failed) feeds.some_failed))
+            subst (λ (r : Option Remainder). EndsAs (are_several (all_times streams)) r feeds.made feeds.failed status_failed (outcome_with (are_several (all_times streams)) end status_failed)) (sym link_closed.own)
+            (ends_by (are_several (all_times streams)) end.link_failed (end.post_failed || status_failed) end.counts feeds.made feeds.failed status_failed later missed link_read ran_some feeds.keys_disclosed feeds.ended feeds.counts (ap (λ (b : Bool). b || status_failed) feeds.some_failed))
 
-        ran_feeds : FeedsLink arguments stream before.live now.live (status_page arguments now) (outcome_with end status_failed)
+        ran_feeds : FeedsLink arguments streams before.live now.live (status_page arguments now) (outcome_with (are_several (all_times streams)) end status_failed)
         ran_feeds = record {
           unread = opens_at.unread;
           opening = opening;
@@ -507,20 +549,20 @@ module _ (over : Bool) (stream : Stream) (arguments : FeedArguments) (left : Opt
           failed = feeds.failed;
           posts = ran_posts;
           status_failed = status_failed;
-          status = subst (λ (counts : FeedCounts). HoldsStatus arguments.status stream.setup.times opening ran_notes counts status_failed (status_page arguments now)) feeds.counts
+          status = subst (λ (counts : FeedsCounts). HoldsStatus arguments.status (all_times streams) opening ran_notes counts status_failed (status_page arguments now)) feeds.counts
               (fed_status end status_failed link_read ran_notes feeds.noted ran_names ran_marked ran_faulty);
           needed = feeds.needed;
           ends = ran_ends;
         }
 
-        fed_all : FeedsFiles over stream arguments before now (outcome_with end status_failed)
+        fed_all : FeedsFiles over streams arguments before now (outcome_with (are_several (all_times streams)) end status_failed)
         fed_all = fed_by end status_failed link_read ran_notes feeds.noted ran_names ran_marked ran_faulty (inr ran_feeds)
 
       -- ---- the run was asked to end
 
-      module _ (stops : StopsEarly over stream opening end left later ticking after fresh posts (WritesStatus arguments.status stream.setup.times opening end.counts opened tried status_failed)) where
+      module _ (stops : StopsEarly over (lasting opening streams) opening end left later ticking after fresh posts (WritesStatus arguments.status (all_times streams) opening end.counts opened tried status_failed)) where
         abbrev stopped_notes : List Note
-        stopped_notes = notes_of stream opening (map rested_at stops.early)
+        stopped_notes = notes_of (lasting opening streams) opening (map rested_at stops.early)
 
         stopped_names : map post_name posts ≡ arguments.posts
         stopped_names = ap (λ (ps : List PostSeen). map post_name ps) stops.posts_are ∙ (fed_to.whole refl).names_are
@@ -532,10 +574,10 @@ module _ (over : Bool) (stream : Stream) (arguments : FeedArguments) (left : Opt
         stopped_marked any = absurd (fresh_sound posts stopped_fresh any)
 
         stopped_faulty : end.post_failed ≡ true → AnyFaulty posts
-        stopped_faulty e = absurd (let clash : true ≡ false = sym e ∙ ap (λ (it : FeedEnd). it.post_failed) stops.result_is in cc)
+        stopped_faulty e = absurd (let clash : true ≡ false = sym e ∙ ap (λ (it : FeedsEnd). it.post_failed) stops.result_is in cc)
 
         stopped_missed : missed ≡ 0
-        stopped_missed = link_read.still (λ e. absurd (let clash : true ≡ false = sym e ∙ ap (λ (it : FeedEnd). it.link_failed) stops.result_is in cc))
+        stopped_missed = link_read.still (λ e. absurd (let clash : true ≡ false = sym e ∙ ap (λ (it : FeedsEnd). it.link_failed) stops.result_is in cc))
 
         stopped_clock : ReadWhere (opens_at.unread ++ opening ∷ stops.early) before.live.readings before.live.made
         stopped_clock =
@@ -544,7 +586,7 @@ module _ (over : Bool) (stream : Stream) (arguments : FeedArguments) (left : Opt
             read_where (opens_at.unread ++ opening ∷ stops.early) before.live.readings before.live.made after
             (subst (λ (rs : List ℕ). Gives rs told after) same (gives_both (opens_at.unread ++ opening ∷ []) stops.early told ticking after opens_at.gives stops.gives))
 
-        stopped_end : FindsEnd over arguments stream before.live now.live (status_page arguments now) (outcome_with end status_failed)
+        stopped_end : FindsEnd over arguments streams before.live now.live (status_page arguments now) (outcome_with (are_several (all_times streams)) end status_failed)
         stopped_end = record {
           asked = stops.asked;
           unread = opens_at.unread;
@@ -560,54 +602,57 @@ module _ (over : Bool) (stream : Stream) (arguments : FeedArguments) (left : Opt
           unsent = subst (λ (ns : List (List ℕ)). AllByRecursion (λ name. IsUnsent (now.live.mail name)) ns) stopped_names
               (all_unsent posts now stopped_fresh (fed_mails end status_failed link_read stopped_notes stops.noted stopped_names stopped_marked stopped_faulty));
           status_failed = status_failed;
-          status = subst (λ (counts : FeedCounts). HoldsStatus arguments.status stream.setup.times opening stopped_notes counts status_failed (status_page arguments now)) (ap (λ (it : FeedEnd). it.counts) stops.result_is)
+          status = subst (λ (counts : FeedsCounts). HoldsStatus arguments.status (all_times streams) opening stopped_notes counts status_failed (status_page arguments now)) (ap (λ (it : FeedsEnd). it.counts) stops.result_is)
               (fed_status end status_failed link_read stopped_notes stops.noted stopped_names stopped_marked stopped_faulty);
-          outcome_is = ap (λ (it : FeedEnd). outcome_with it status_failed) stops.result_is;
+          outcome_is = ap (λ (it : FeedsEnd). outcome_with (are_several (all_times streams)) it status_failed) stops.result_is;
         }
 
-        fed_stopped : FeedsFiles over stream arguments before now (outcome_with end status_failed)
+        fed_stopped : FeedsFiles over streams arguments before now (outcome_with (are_several (all_times streams)) end status_failed)
         fed_stopped = fed_by end status_failed link_read stopped_notes stops.noted stopped_names stopped_marked stopped_faulty (inl stopped_end)
 
     -- ---- whatever was done with the link and the posts
 
-    fed_ready : (outcome : OutcomeView) → FeedsReady over stream opening arguments.status left later 0 missed ticking opened tried fresh posts outcome → FeedsFiles over stream arguments before now outcome
+    fed_ready : (outcome : OutcomeView) → FeedsReady over (all_times streams) (lasting opening streams) opening arguments.status left later 0 missed ticking opened tried fresh posts outcome → FeedsFiles over streams arguments before now outcome
     fed_ready outcome (inl lacks) =
-        subst (λ (c : OutcomeView). FeedsFiles over stream arguments before now c) (sym lacks.outcome_is) (fed_unstatused lacks.fault lacks.refuses lacks.unheard lacks.unsent)
+        subst (λ (c : OutcomeView). FeedsFiles over streams arguments before now c) (sym lacks.outcome_is) (fed_unstatused lacks.fault lacks.refuses lacks.unheard lacks.unsent)
     fed_ready outcome (inr fed) =
-        subst (λ (c : OutcomeView). FeedsFiles over stream arguments before now c) (sym fed.outcome_is) (fed_comes fed.end fed.status_failed fed.read fed.fed.after fed.fed.comes) where
-          fed_comes : (end : FeedEnd) (status_failed : Bool) (read : HasCause 0 missed (end.link_failed ≡ true)) (after : Option Ticking)
-              → ComesTo over stream opening end left later ticking after fresh posts (WritesStatus arguments.status stream.setup.times opening end.counts opened tried status_failed) → FeedsFiles over stream arguments before now (outcome_with end status_failed)
+        subst (λ (c : OutcomeView). FeedsFiles over streams arguments before now c) (sym fed.outcome_is) (fed_comes fed.end fed.status_failed fed.read fed.fed.after fed.fed.comes) where
+          fed_comes : (end : FeedsEnd) (status_failed : Bool) (read : HasCause 0 missed (end.link_failed ≡ true)) (after : Option Ticking)
+              → ComesTo over (lasting opening streams) opening end left later ticking after fresh posts (WritesStatus arguments.status (all_times streams) opening end.counts opened tried status_failed) → FeedsFiles over streams arguments before now (outcome_with (are_several (all_times streams)) end status_failed)
           fed_comes end status_failed read after (inl feeds) = fed_all end status_failed read after feeds
           fed_comes end status_failed read after (inr stops) = fed_stopped end status_failed read after stops
 
 -- ---- what was tried, and closed
 
-fed_tried : (over : Bool) (stream : Stream) (arguments : FeedArguments) (left : Option (List Letter)) (before linked now : Told) (link_opened : OpenedLink (before.live.wire arguments.link) left) (link_live : linked.live ≡ before.live) (link_counts : linked.faults ≡ before.faults) (link_opens : Opens (OfLink arguments.link ∷ []) 1 before linked) (posts : List PostSeen) (tried closed : Told) (later : Option (List Letter)) (missed : ℕ)
-    (posts_closed : ClosesPosts posts tried closed) (link_closed : ClosesLink arguments.link later missed closed now) (some : 1 ≤ length arguments.posts) (distinct : AreDistinct arguments.posts) (outcome : OutcomeView) → TriesToFeed over stream arguments.posts arguments.status left later 0 missed linked tried posts outcome → FeedsFiles over stream arguments before now outcome
-fed_tried over stream arguments left before linked now link_opened link_live link_counts link_opens posts tried closed later missed posts_closed link_closed some distinct outcome (inl (inl lacks, left_is, missed_is)) =
-    fed_senderless over stream arguments left before linked tried closed now outcome link_opened link_live link_counts link_opens posts later missed posts_closed link_closed lacks left_is missed_is
-fed_tried over stream arguments left before linked now link_opened link_live link_counts link_opens posts tried closed later missed posts_closed link_closed some distinct outcome (inl (inr (right, inl ends), left_is, missed_is)) =
+fed_tried : (over : Bool) (streams : List Stream) (arguments : FeedArguments) (left : Option (List Letter)) (before linked now : Told) (link_opened : OpenedLink (before.live.wire arguments.link) left) (link_live : linked.live ≡ before.live) (link_counts : linked.faults ≡ before.faults) (link_opens : Opens (OfLink arguments.link ∷ []) 1 before linked) (posts : List PostSeen) (tried closed : Told) (later : Option (List Letter)) (missed : ℕ)
+    (posts_closed : ClosesPosts posts tried closed) (link_closed : ClosesLink arguments.link later missed closed now) (some : 1 ≤ length arguments.posts) (distinct : AreDistinct arguments.posts) (outcome : OutcomeView) → TriesToFeed over streams arguments.posts arguments.status left later 0 missed linked tried posts outcome → FeedsFiles over streams arguments before now outcome
+fed_tried over streams arguments left before linked now link_opened link_live link_counts link_opens posts tried closed later missed posts_closed link_closed some distinct outcome (inl (inl lacks, left_is, missed_is)) =
+    fed_senderless over streams arguments left before linked tried closed now outcome link_opened link_live link_counts link_opens posts later missed posts_closed link_closed lacks left_is missed_is
+fed_tried over streams arguments left before linked now link_opened link_live link_counts link_opens posts tried closed later missed posts_closed link_closed some distinct outcome (inl (inr (right, inl ends), left_is, missed_is)) =
     let opens = ends.opens.opens in
     let makes = ends.opens.makes in
-    let at = opens_at_first over stream arguments left before linked tried now link_opened link_live link_counts link_opens ends.ticking makes posts tried closed later missed posts_closed link_closed opens.0 opens.1 in
-    subst (λ (c : OutcomeView). FeedsFiles over stream arguments before now c) (sym ends.outcome_is)
-    (fed_over over stream arguments left before linked tried now link_opened link_live link_counts link_opens ends.ticking makes posts tried closed later missed posts_closed link_closed opens.0 at right opens.2 ends.none refl (left_is, missed_is))
-fed_tried over stream arguments left before linked now link_opened link_live link_counts link_opens posts tried closed later missed posts_closed link_closed some distinct outcome (inl (inr (right, inr refuses), left_is, missed_is)) =
-    subst (λ (c : OutcomeView). FeedsFiles over stream arguments before now c) (sym refuses.outcome_is)
-    (fed_refused over stream arguments left before linked refuses.opens.clocked now link_opened link_live link_counts link_opens refuses.ticking refuses.opens.opens.makes posts tried closed later missed posts_closed link_closed right refuses.fault refuses.opens.posts_open (left_is, missed_is))
-fed_tried over stream arguments left before linked now link_opened link_live link_counts link_opens posts tried closed later missed posts_closed link_closed some distinct outcome (inr (right, feeds)) =
+    let at = opens_at_first over streams arguments left before linked tried now link_opened link_live link_counts link_opens ends.ticking makes posts tried closed later missed posts_closed link_closed opens.0 opens.1 in
+    subst (λ (c : OutcomeView). FeedsFiles over streams arguments before now c) (sym ends.outcome_is)
+    (fed_over over streams arguments left before linked tried now link_opened link_live link_counts link_opens ends.ticking makes posts tried closed later missed posts_closed link_closed opens.0 at right opens.2 ends.none refl (left_is, missed_is))
+fed_tried over streams arguments left before linked now link_opened link_live link_counts link_opens posts tried closed later missed posts_closed link_closed some distinct outcome (inl (inr (right, inr (inl ends)), left_is, missed_is)) =
+    subst (λ (c : OutcomeView). FeedsFiles over streams arguments before now c) (sym ends.outcome_is)
+    (fed_unheld over streams arguments left before linked tried now link_opened link_live link_counts link_opens None ends.makes posts tried closed later missed posts_closed link_closed right ends.none refl (left_is, missed_is))
+fed_tried over streams arguments left before linked now link_opened link_live link_counts link_opens posts tried closed later missed posts_closed link_closed some distinct outcome (inl (inr (right, inr (inr refuses)), left_is, missed_is)) =
+    subst (λ (c : OutcomeView). FeedsFiles over streams arguments before now c) (sym refuses.outcome_is)
+    (fed_refused over streams arguments left before linked refuses.opens.clocked now link_opened link_live link_counts link_opens refuses.ticking refuses.opens.opens.makes posts tried closed later missed posts_closed link_closed right refuses.fault refuses.opens.posts_open (left_is, missed_is))
+fed_tried over streams arguments left before linked now link_opened link_live link_counts link_opens posts tried closed later missed posts_closed link_closed some distinct outcome (inr (right, feeds)) =
     let opens = feeds.opens.opens.opens in
     let makes = feeds.opens.opens.makes in
     let opening = feeds.feed.opening in
-    let at = opens_at_first over stream arguments left before linked feeds.opens.clocked now link_opened link_live link_counts link_opens feeds.ticking makes posts tried closed later missed posts_closed link_closed opening opens.0 in
-    fed_ready over stream arguments left before linked feeds.opens.clocked now link_opened link_live link_counts link_opens feeds.ticking makes posts tried closed later missed posts_closed link_closed right some distinct opening at opens.1 feeds.fresh feeds.opened feeds.opens.posts_open outcome
-    (subst (λ (s : Stream). FeedsReady over s opening arguments.status left later 0 missed feeds.ticking feeds.opened tried feeds.fresh posts outcome) opens.2 feeds.feeds)
+    let at = opens_at_first over streams arguments left before linked feeds.opens.clocked now link_opened link_live link_counts link_opens feeds.ticking makes posts tried closed later missed posts_closed link_closed opening opens.0 in
+    fed_ready over streams arguments left before linked feeds.opens.clocked now link_opened link_live link_counts link_opens feeds.ticking makes posts tried closed later missed posts_closed link_closed right some distinct opening at (subst (λ (ss : List Stream). first_lasts opening ss ≡ true) opens.1 opens.2.lasts) feeds.fresh feeds.opened feeds.opens.posts_open outcome
+    (subst (λ (ss : List Stream). FeedsReady over (all_times streams) ss opening arguments.status left later 0 missed feeds.ticking feeds.opened tried feeds.fresh posts outcome) opens.1 feeds.feeds)
 
 -- the link was opened, what follows was tried, and all was closed
-pub fed_linked : {A : Type 0} (over : Bool) (stream : Stream) (arguments : FeedArguments) (words : List (List ℕ)) (it : A) (name : List ℕ) (names : List (List ℕ)) (left : Option (List Letter)) (before linked now : Told) (outcome : OutcomeView) → IsFeedForm arguments words → name ≡ arguments.link → names ≡ arguments.posts → OpenedLink (before.live.wire arguments.link) left → OpensLink {A = A} arguments.link (Ok it) before linked → RunsLinked over stream names arguments.status name left linked now outcome → FeedsFiles over stream arguments before now outcome
-fed_linked {A} over stream arguments words it name names left before linked now outcome is own posts_are opened opens runs =
-    let tries = subst (λ (ns : List (List ℕ)). TriesToFeed over stream ns arguments.status left runs.later 0 runs.missed linked runs.tried runs.posts outcome) posts_are runs.tries in
+pub fed_linked : {A : Type 0} (over : Bool) (streams : List Stream) (arguments : FeedArguments) (words : List (List ℕ)) (it : A) (name : List ℕ) (names : List (List ℕ)) (left : Option (List Letter)) (before linked now : Told) (outcome : OutcomeView) → IsFeedForm arguments words → name ≡ arguments.link → names ≡ arguments.posts → OpenedLink (before.live.wire arguments.link) left → OpensLink {A = A} arguments.link (Ok it) before linked → RunsLinked over streams names arguments.status name left linked now outcome → FeedsFiles over streams arguments before now outcome
+fed_linked {A} over streams arguments words it name names left before linked now outcome is own posts_are opened opens runs =
+    let tries = subst (λ (ns : List (List ℕ)). TriesToFeed over streams ns arguments.status left runs.later 0 runs.missed linked runs.tried runs.posts outcome) posts_are runs.tries in
     let link_closed = subst (λ (n : List ℕ). ClosesLink n runs.later runs.missed runs.closed now) own runs.link_closed in
     let first = opens_first (OfLink arguments.link) [] before linked opens.asked (λ n none. opens.pages n) (λ n none. opens.lefts n) in
     let posts = is.spelled.rest.rest.rest.rest.first in
-    fed_tried over stream arguments left before linked now opened opens.live (counts_stay before.faults linked.faults opens.counts (λ e. absurd cc)) first runs.posts runs.tried runs.closed runs.later runs.missed runs.posts_closed link_closed posts.some posts.distinct outcome tries
+    fed_tried over streams arguments left before linked now opened opens.live (counts_stay before.faults linked.faults opens.counts (λ e. absurd cc)) first runs.posts runs.tried runs.closed runs.later runs.missed runs.posts_closed link_closed posts.some posts.distinct outcome tries

@@ -1,4 +1,6 @@
 mod Spelled
+mod Listed
+mod Opened
 mod Steps
 mod Ended
 mod Mailed

@@ -6,11 +6,11 @@ use Rattle.tesla_desk.specs.Outside.{OpensSink, Told, with_bytes}
 use Rattle.tesla_desk.specs.declared.link.Letter.{Letter}
 use Rattle.tesla_desk.proofs.Counts.{cause_as}
 use Rattle.tesla_desk.proofs.Told.{first_written}
-use Rattle.tesla_feed.specs.Due.{IsNoted, IsWholeGiven}
-use Rattle.tesla_feed.specs.Feed.{ComesTo}
-use Rattle.tesla_feed.specs.Notes.{Note}
-use Rattle.tesla_feed.specs.declared.counts.FeedCounts.{FeedCounts}
-use Rattle.tesla_feed.specs.declared.feeding.FeedEnd.{FeedEnd}
+use Rattle.tesla_feeds.specs.Due.{IsNoted, IsWholeGiven}
+use Rattle.tesla_feeds.specs.Feeds.{ComesTo}
+use Rattle.tesla_feeds.specs.Notes.{Note}
+use Rattle.tesla_feeds.specs.declared.events.FeedsCounts.{FeedsCounts}
+use Rattle.tesla_feeds.specs.declared.feeding.FeedsEnd.{FeedsEnd}
 use Rattle.tesla_relay.specs.Posts.{PostSeen}
 use Rattle.tesla_run_feed.specs.Due.{HasWritten, IsCounted}
 use Rattle.tesla_run_feed.specs.Status.{HasAllLines, HasLines, end_line, has_line, line_text, time_line}
@@ -28,17 +28,17 @@ held fresh None bytes empty is = tt
 held fresh (Some own) bytes empty is = first_written fresh (Some own) bytes own empty is refl
 
 -- an output that hasn't failed has the lines
-has_written : (times : Times) (every opening since last : ℕ) (notes : List Note) (written : Option (List ℕ)) (faults : ℕ) (failed : Bool) → failed ≡ false → HasLines times every opening since last notes written faults failed → HasWritten times every opening notes written
+has_written : (times : List Times) (every opening since last : ℕ) (notes : List Note) (written : Option (List ℕ)) (faults : ℕ) (failed : Bool) → failed ≡ false → HasLines times every opening since last notes written faults failed → HasWritten times every opening notes written
 has_written times every opening since last notes written faults failed still has =
     record { lines = has.lines; are = has.are; written_is = held has.before written (flat_map (line_text times) has.lines) has.empty (has.puts.all still) }
 
 -- what counts are told by
-abbrev pub told_by : Times → ℕ → ℕ → List ℕ → Telling
-told_by times opening every name = record { schedule = times; opening = opening; every = every; name = name }
+abbrev pub told_by : List Times → ℕ → ℕ → List ℕ → Telling
+told_by times opening every name = record { schedules = times; opening = opening; every = every; name = name }
 
-module _ (gave : ℕ → Bool) (read_for : ℕ → List ℕ → ℕ → Bool) (stream : Stream) (opening every : ℕ) (name own_name : List ℕ) (times : Times) (own_opening own_every since last : ℕ) (by : told_by times own_opening own_every own_name ≡ told_by stream.setup.times opening every name) (opened : gave opening ≡ true) (written : Option (List ℕ)) (faults : ℕ) (failed : Bool) where
-  times_is : times ≡ stream.setup.times
-  times_is = ap (λ (t : Telling). t.schedule) by
+module _ (gave : ℕ → Bool) (read_for : ℕ → List ℕ → ℕ → Bool) (streams : List Stream) (whole : List Times) (opening every : ℕ) (name own_name : List ℕ) (times : List Times) (own_opening own_every since last : ℕ) (by : told_by times own_opening own_every own_name ≡ told_by whole opening every name) (opened : gave opening ≡ true) (written : Option (List ℕ)) (faults : ℕ) (failed : Bool) where
+  times_is : times ≡ whole
+  times_is = ap (λ (t : Telling). t.schedules) by
 
   every_is : own_every ≡ every
   every_is = ap (λ (t : Telling). t.every) by
@@ -51,58 +51,58 @@ module _ (gave : ℕ → Bool) (read_for : ℕ → List ℕ → ℕ → Bool) (s
   name_is = ap (λ (t : Telling). t.name) by
 
   module _ (notes : List Note) (has : HasLines times own_every own_opening since last notes written faults failed) where
-    has_told : HasLines stream.setup.times every opening since last notes written faults failed
-    has_told = has_as times stream.setup.times own_every every own_opening opening since since last last notes written faults failed (sym times_is) (sym every_is) (sym opening_is) refl refl has
+    has_told : HasLines whole every opening since last notes written faults failed
+    has_told = has_as times whole own_every every own_opening opening since since last last notes written faults failed (sym times_is) (sym every_is) (sym opening_is) refl refl has
 
     -- a note that has a line may be told
-    pub counted_next : (note : Note) → IsNoted gave read_for stream notes note → failed ≡ false → has_line own_every since note.reading ≡ true → (system : SystemCounts) → IsCounted gave read_for stream every written (time_line times system note)
+    pub counted_next : (note : Note) → IsNoted gave read_for streams notes note → failed ≡ false → has_line own_every since note.reading ≡ true → (system : SystemCounts) → IsCounted gave read_for whole streams every written (time_line times system note)
     counted_next note noted still due system = inl (record {
       opening = opening;
       opened = opened;
       before = notes;
-      has = has_written stream.setup.times every opening since last notes written faults failed still has_told;
+      has = has_written whole every opening since last notes written faults failed still has_told;
       note = note;
       noted = noted;
       due = ap (λ (s : ℕ). has_line every s note.reading) (sym has_told.since_is) ∙ ap (λ (n : ℕ). has_line n since note.reading) (sym every_is) ∙ due;
       system = system;
-      piece_is = ap (λ (t : Times). time_line t system note) times_is;
+      piece_is = ap (λ (t : List Times). time_line t system note) times_is;
     })
 
     -- all lines are those of what counts are told by
-    pub has_all : (counts : FeedCounts) (later : Option (List ℕ)) (count : ℕ) (is : Bool) → HasAllLines times own_every own_opening notes counts later count is → HasAllLines stream.setup.times every opening notes counts later count is
+    pub has_all : (counts : FeedsCounts) (later : Option (List ℕ)) (count : ℕ) (is : Bool) → HasAllLines times own_every own_opening notes counts later count is → HasAllLines whole every opening notes counts later count is
     has_all counts later count is all =
-        subst (λ (t : Telling). HasAllLines t.schedule t.every t.opening notes counts later count is) by all
+        subst (λ (t : Telling). HasAllLines t.schedules t.every t.opening notes counts later count is) by all
 
   -- the last line may be told
-  pub counted_last : (counts : FeedCounts) → IsWholeGiven gave read_for stream counts (λ notes. HasLines times own_every own_opening since last notes written faults failed) → failed ≡ false → (system : SystemCounts)
-      → IsCounted gave read_for stream every written (end_line times system (record { reading = last; counts = counts }))
-  counted_last counts whole still system =
-      let has = has_told _ whole.noted in
+  pub counted_last : (counts : FeedsCounts) → IsWholeGiven gave read_for streams counts (λ notes. HasLines times own_every own_opening since last notes written faults failed) → failed ≡ false → (system : SystemCounts)
+      → IsCounted gave read_for whole streams every written (end_line times system (record { reading = last; counts = counts }))
+  counted_last counts given still system =
+      let has = has_told _ given.noted in
       inr (record {
         opening = opening;
         opened = opened;
         counts = counts;
         whole = record {
-          opening = whole.opening;
-          opened = whole.opened;
-          lasts = whole.lasts;
-          events = whole.events;
-          given = whole.given;
+          opening = given.opening;
+          opened = given.opened;
+          lasts = given.lasts;
+          events = given.events;
+          given = given.given;
           noted = record {
-            has = has_written stream.setup.times every opening since last _ written faults failed still has;
+            has = has_written whole every opening since last _ written faults failed still has;
             system = system;
-            piece_is = ap (λ (t : Times). end_line t system (record { reading = last; counts = counts })) times_is
-                ∙ ap (λ (r : ℕ). end_line stream.setup.times system (record { reading = r; counts = counts })) has.last_is;
+            piece_is = ap (λ (t : List Times). end_line t system (record { reading = last; counts = counts })) times_is
+                ∙ ap (λ (r : ℕ). end_line whole system (record { reading = r; counts = counts })) has.last_is;
           };
-          counts_are = whole.counts_are;
+          counts_are = given.counts_are;
         };
       })
 
 -- ---- behind a feed
 
 -- what was told of the counts, in other words
-pub whole_as : (gave : ℕ → Bool) (read_for : ℕ → List ℕ → ℕ → Bool) (stream : Stream) (counts : FeedCounts) (was is : List Note → Type 0) → ((notes : List Note) → was notes → is notes) → IsWholeGiven gave read_for stream counts was → IsWholeGiven gave read_for stream counts is
-whole_as gave read_for stream counts was is weaker whole = record {
+pub whole_as : (gave : ℕ → Bool) (read_for : ℕ → List ℕ → ℕ → Bool) (streams : List Stream) (counts : FeedsCounts) (was is : List Note → Type 0) → ((notes : List Note) → was notes → is notes) → IsWholeGiven gave read_for streams counts was → IsWholeGiven gave read_for streams counts is
+whole_as gave read_for streams counts was is weaker whole = record {
   opening = whole.opening;
   opened = whole.opened;
   lasts = whole.lasts;
@@ -112,9 +112,9 @@ whole_as gave read_for stream counts was is weaker whole = record {
   counts_are = whole.counts_are;
 }
 
-comes_as : (over : Bool) (stream : Stream) (opening : ℕ) (end : FeedEnd) (left later : Option (List Letter)) (before after : Option Ticking) (posts posts_now : List PostSeen) (was is : List Note → Type 0) → ((notes : List Note) → was notes → is notes)
-    → ComesTo over stream opening end left later before after posts posts_now was → ComesTo over stream opening end left later before after posts posts_now is
-comes_as over stream opening end left later before after posts posts_now was is weaker (inl feeds) = inl (record {
+comes_as : (over : Bool) (streams : List Stream) (opening : ℕ) (end : FeedsEnd) (left later : Option (List Letter)) (before after : Option Ticking) (posts posts_now : List PostSeen) (was is : List Note → Type 0) → ((notes : List Note) → was notes → is notes)
+    → ComesTo over streams opening end left later before after posts posts_now was → ComesTo over streams opening end left later before after posts posts_now is
+comes_as over streams opening end left later before after posts posts_now was is weaker (inl feeds) = inl (record {
   early = feeds.early;
   begun = feeds.begun;
   heard = feeds.heard;
@@ -134,7 +134,7 @@ comes_as over stream opening end left later before after posts posts_now was is 
   counts = feeds.counts;
   some_failed = feeds.some_failed;
 })
-comes_as over stream opening end left later before after posts posts_now was is weaker (inr stops) = inr (record {
+comes_as over streams opening end left later before after posts posts_now was is weaker (inr stops) = inr (record {
   asked = stops.asked;
   early = stops.early;
   gives = stops.gives;
@@ -145,10 +145,10 @@ comes_as over stream opening end left later before after posts posts_now was is 
   result_is = stops.result_is;
 })
 
-pub feeds_as : (over : Bool) (stream : Stream) (opening : ℕ) (end : FeedEnd) (left later : Option (List Letter)) (ticking : Option Ticking) (posts posts_now : List PostSeen) (was is : List Note → Type 0) → ((notes : List Note) → was notes → is notes)
-    → FeedsPosts over stream opening end left later ticking posts posts_now was → FeedsPosts over stream opening end left later ticking posts posts_now is
-feeds_as over stream opening end left later ticking posts posts_now was is weaker fed =
-    record { after = fed.after; comes = comes_as over stream opening end left later ticking fed.after posts posts_now was is weaker fed.comes }
+pub feeds_as : (over : Bool) (streams : List Stream) (opening : ℕ) (end : FeedsEnd) (left later : Option (List Letter)) (ticking : Option Ticking) (posts posts_now : List PostSeen) (was is : List Note → Type 0) → ((notes : List Note) → was notes → is notes)
+    → FeedsPosts over streams opening end left later ticking posts posts_now was → FeedsPosts over streams opening end left later ticking posts posts_now is
+feeds_as over streams opening end left later ticking posts posts_now was is weaker fed =
+    record { after = fed.after; comes = comes_as over streams opening end left later ticking fed.after posts posts_now was is weaker fed.comes }
 
 -- ---- the opening of STATUS
 

@@ -11,7 +11,7 @@ pairs_same None = refl
 pairs_same (Some status) = refl
 
 abbrev pub with_status : FeedArguments → Option StatusArguments → FeedArguments
-with_status it status = record { setup = it.setup; secret = it.secret; link = it.link; posts = it.posts; status = status }
+with_status it status = record { setups = it.setups; secrets = it.secrets; link = it.link; posts = it.posts; status = status }
 
 pub paired : (it : FeedArguments) (words : List (List ℕ)) → AreFeedWords it words → AreFeedWords (with_status it (option_map pair_of (option_map pair_in it.status))) words
 paired it words are = subst (λ (status : Option StatusArguments). AreFeedWords (with_status it status) words) (sym (pairs_same it.status)) are

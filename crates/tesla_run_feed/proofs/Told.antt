@@ -1,13 +1,13 @@
 -- What is written to STATUS, as notes come one after another.
-use Rattle.std.proofs.Common.{◌≡◌, ◌∙◌, ℕ, Bool, true, false, List, [], ◌∷◌, ◌++◌, flat_map, map, Option, IfSome, append-nil, append_assoc, refl, sym, ap, subst}
+use Rattle.std.proofs.Common.{◌≡◌, ◌∙◌, ℕ, Bool, true, false, List, [], ◌∷◌, ◌++◌, flat_map, Option, IfSome, append-nil, append_assoc, refl, sym, ap, subst}
 use Rattle.std.specs.Prelude.{◌&&◌, if◌then◌else◌, not}
 use Rattle.std.proofs.lemmas.List.Concat.{flat_map-append}
 use mathlib.Core.List.{map-append}
 use Rattle.std.proofs.lemmas.List.Sums.{fold-append}
 use Rattle.tesla_clock.specs.Schedule.{Times}
 use Rattle.tesla_feed.specs.Fed.{is_unread}
-use Rattle.tesla_feed.specs.Notes.{Note}
-use Rattle.tesla_feed.specs.declared.counts.FeedCounts.{FeedCounts}
+use Rattle.tesla_feeds.specs.Notes.{Note}
+use Rattle.tesla_feeds.specs.declared.events.FeedsCounts.{FeedsCounts}
 use Rattle.tesla_run_feed.specs.Status.{AreLinesOf, HasAllLines, HasLines, Line, due_notes, end_line, has_line, last_reading, line_text, note_of, note_where, since_at, since_behind, time_line}
 use Rattle.tesla_run_feed.specs.declared.line.SystemCounts.{SystemCounts}
 use Rattle.tesla_status.specs.Due.{is_due_at, since_after}
@@ -38,7 +38,7 @@ pub are_same : (every since : ℕ) (notes : List Note) (note : Note) (lines : Li
 are_same every since notes note lines none are = are ∙ sym (due_then every since notes note false none ∙ append-nil (due_notes every since notes))
 
 -- their text
-text_more : (times : Times) (lines : List Line) (line : Line) → flat_map (line_text times) (lines ++ line ∷ []) ≡ flat_map (line_text times) lines ++ line_text times line
+text_more : (times : List Times) (lines : List Line) (line : Line) → flat_map (line_text times) (lines ++ line ∷ []) ≡ flat_map (line_text times) lines ++ line_text times line
 text_more times lines line =
     flat_map-append (line_text times) lines (line ∷ []) ∙ ap (λ (bytes : List ℕ). flat_map (line_text times) lines ++ bytes) (append-nil (line_text times line))
 
@@ -50,7 +50,7 @@ since_more every since notes note = fold-append (λ s n. since_at every s n.read
 last_more : (opening : ℕ) (notes : List Note) (note : Note) → last_reading opening (notes ++ note ∷ []) ≡ (if is_unread note.reading then last_reading opening notes else note.reading)
 last_more opening notes note = fold-append (λ last n. if is_unread n.reading then last else n.reading) opening notes (note ∷ [])
 
-module _ (times : Times) (every opening since last : ℕ) (notes : List Note) (note : Note) (old new : Option (List ℕ)) (faults count : ℕ) (was is : Bool) (has : HasLines times every opening since last notes old faults was) where
+module _ (times : List Times) (every opening since last : ℕ) (notes : List Note) (note : Note) (old new : Option (List ℕ)) (faults count : ℕ) (was is : Bool) (has : HasLines times every opening since last notes old faults was) where
   line_is : (unread due : Bool) → is_unread note.reading ≡ unread → is_due_at every since note.reading ≡ due → has_line every (since_behind every opening notes) note.reading ≡ (not unread && due)
   line_is unread due read due_is = ap (λ (b : Bool). not b && is_due_at every (since_behind every opening notes) note.reading) read ∙ ap (λ (s : ℕ). not unread && is_due_at every s note.reading) (sym has.since_is) ∙ ap (λ (b : Bool). not unread && b) due_is
 
@@ -103,7 +103,7 @@ module _ (times : Times) (every opening since last : ℕ) (notes : List Note) (n
   }
 
   -- the last line was put
-  pub told_end : (counts : FeedCounts) (system : SystemCounts) → Puts (end_line times system (record { reading = last; counts = counts })) old new faults count was is → HasAllLines times every opening notes counts new count is
+  pub told_end : (counts : FeedsCounts) (system : SystemCounts) → Puts (end_line times system (record { reading = last; counts = counts })) old new faults count was is → HasAllLines times every opening notes counts new count is
   told_end counts system puts = record {
     before = has.before;
     empty = has.empty;
@@ -115,14 +115,14 @@ module _ (times : Times) (every opening since last : ℕ) (notes : List Note) (n
   }
 
 -- nothing was told yet
-pub told_none : (times : Times) (every opening : ℕ) (written : Option (List ℕ)) (faults : ℕ) → IfSome written (λ bytes. bytes ≡ []) → faults ≡ 0 → HasLines times every opening opening opening [] written faults false
+pub told_none : (times : List Times) (every opening : ℕ) (written : Option (List ℕ)) (faults : ℕ) → IfSome written (λ bytes. bytes ≡ []) → faults ≡ 0 → HasLines times every opening opening opening [] written faults false
 told_none times every opening written faults empty none = record { before = written; empty = empty; since_is = refl; last_is = refl; lines = []; are = refl; puts = puts_none written faults none }
 
 -- the same of equal parts
-pub has_as : (times own : Times) (every every_now opening opening_now since since_now last last_now : ℕ) (notes : List Note) (written : Option (List ℕ)) (faults : ℕ) (failed : Bool) → own ≡ times → every_now ≡ every → opening_now ≡ opening → since_now ≡ since → last_now ≡ last → HasLines times every opening since last notes written faults failed
+pub has_as : (times own : List Times) (every every_now opening opening_now since since_now last last_now : ℕ) (notes : List Note) (written : Option (List ℕ)) (faults : ℕ) (failed : Bool) → own ≡ times → every_now ≡ every → opening_now ≡ opening → since_now ≡ since → last_now ≡ last → HasLines times every opening since last notes written faults failed
     → HasLines own every_now opening_now since_now last_now notes written faults failed
 has_as times own every every_now opening opening_now since since_now last last_now notes written faults failed same_times same_every same_opening same_since same_last has =
-    subst (λ (t : Times). HasLines t every_now opening_now since_now last_now notes written faults failed) (sym same_times)
+    subst (λ (t : List Times). HasLines t every_now opening_now since_now last_now notes written faults failed) (sym same_times)
     (subst (λ (n : ℕ). HasLines times n opening_now since_now last_now notes written faults failed) (sym same_every)
     (subst (λ (n : ℕ). HasLines times every n since_now last_now notes written faults failed) (sym same_opening)
     (subst (λ (n : ℕ). HasLines times every opening n last_now notes written faults failed) (sym same_since)

@@ -1,4 +1,5 @@
 pub mod Arguments
+pub mod Listing
 pub mod Lines
 pub mod Status
 pub mod Feeding

@@ -1,7 +1,8 @@
 -- The lines that tell what a feed came to.
-use Rattle.std.specs.Prelude.{ℕ, Bool, true, false, ◌||◌, List, ◌++◌, codes}
+use Rattle.std.specs.Prelude.{Bool, true, false, ◌||◌, ℕ, List, [], ◌++◌, codes}
 use Rattle.tesla_feed.specs.declared.counts.FeedCounts.{FeedCounts}
-use Rattle.tesla_feed.specs.declared.feeding.FeedEnd.{FeedEnd}
+use Rattle.tesla_feeds.specs.declared.events.FeedsCounts.{FeedsCounts}
+use Rattle.tesla_feeds.specs.declared.feeding.FeedsEnd.{FeedsEnd}
 use Rattle.tesla_front.specs.OutcomeView.{OutcomeView, Done, Failed, Refused}
 use Rattle.tesla_front.specs.Lines.{count_line}
 use Rattle.tesla_front.specs.Refusal.{refused_line}
@@ -21,20 +22,26 @@ refused_lines counts =
 abbrev pub unread_line : FeedCounts → List ℕ
 unread_line counts = count_line (codes "unread") counts.unread
 
--- all lines
-abbrev pub lines_of : FeedCounts → List ℕ
-lines_of counts = sent_lines counts ++ refused_lines counts ++ unread_line counts
+-- how many handovers were sent, where there are several streams
+abbrev pub handover_line : Bool → ℕ → List ℕ
+handover_line false handovers = []
+handover_line true handovers = count_line (codes "handovers") handovers
 
--- what a feed came to, told whether the link failed and whether a post or STATUS did
-abbrev pub outcome_by : Bool → Bool → FeedCounts → OutcomeView
-outcome_by true write_failed counts = Failed faults.Read
-outcome_by false true counts = Failed faults.Write
-outcome_by false false counts = Done (lines_of counts)
+-- all lines, told whether there are several streams
+abbrev pub lines_of : Bool → FeedsCounts → List ℕ
+lines_of several counts =
+    sent_lines counts.feed ++ handover_line several counts.handovers ++ refused_lines counts.feed ++ unread_line counts.feed
+
+-- what a feed came to, told whether there are several streams, whether the link failed, and whether a post or STATUS did
+abbrev pub outcome_by : Bool → Bool → Bool → FeedsCounts → OutcomeView
+outcome_by several true write_failed counts = Failed faults.Read
+outcome_by several false true counts = Failed faults.Write
+outcome_by several false false counts = Done (lines_of several counts)
 
 -- what a feed came to, told whether STATUS failed: a failed link, else a failed post or STATUS, else the lines
-abbrev pub outcome_with : FeedEnd → Bool → OutcomeView
-outcome_with end status_failed = outcome_by end.link_failed (end.post_failed || status_failed) end.counts
+abbrev pub outcome_with : Bool → FeedsEnd → Bool → OutcomeView
+outcome_with several end status_failed = outcome_by several end.link_failed (end.post_failed || status_failed) end.counts
 
--- what a stream that is over when its feed is opened comes to: its setup is refused
-abbrev pub stream_over : OutcomeView
-stream_over = Refused 2 (refused_line (codes "setup") 0 (codes "Over"))
+-- what streams that are all over when their feed is opened come to: the setup is refused
+abbrev pub streams_over : OutcomeView
+streams_over = Refused 2 (refused_line (codes "setup") 0 (codes "Over"))

@@ -3,8 +3,10 @@ use Rattle.std.specs.Prelude.{◌≡◌, ℕ, ◌+◌, ◌-◌, Bool, true, fals
 use Rattle.std.specs.List.{fold}
 use Rattle.tesla_clock.specs.Schedule.{Times}
 use Rattle.tesla_feed.specs.Fed.{is_unread}
-use Rattle.tesla_feed.specs.Notes.{Note}
 use Rattle.tesla_feed.specs.declared.counts.FeedCounts.{FeedCounts}
+use Rattle.tesla_feeds.specs.Notes.{Note}
+use Rattle.tesla_feeds.specs.declared.events.FeedsCounts.{FeedsCounts}
+use Rattle.tesla_run_feed.specs.Listing.{are_several}
 use Rattle.tesla_run_feed.specs.declared.line.SystemCounts.{SystemCounts}
 use Rattle.tesla_sender.specs.Made.{interval_at}
 use Rattle.tesla_status.specs.Due.{is_due_at, since_after}
@@ -13,31 +15,49 @@ use Rattle.tesla_status.specs.Written.{PutsAll}
 
 -- ---- a line
 
--- how many intervals of the stream haven't ended by a reading: 0 behind the last one
+-- how many intervals of a stream haven't ended by a reading: 0 behind the last one
 abbrev pub left_at : Times → ℕ → ℕ
 left_at times reading = times.last + 1 - interval_at times reading
 
--- the counts, each behind its name
-unfoldable pub counts_text : FeedCounts → List ℕ
-counts_text counts =
-    number_text (codes " messages=") counts.messages ++ number_text (codes " disclosures=") counts.disclosures ++ number_text (codes " toolong=") counts.too_long
-    ++ number_text (codes " early=") counts.early ++ number_text (codes " over=") counts.over ++ number_text (codes " backward=") counts.backward
-    ++ number_text (codes " full=") counts.full ++ number_text (codes " unread=") counts.unread
+-- those of all these streams
+abbrev pub left_in : List Times → ℕ → ℕ
+left_in [] reading = 0
+left_in (times ∷ others) reading = left_at times reading + left_in others reading
+
+-- how many messages and disclosures were sent
+unfoldable pub sent_text : FeedCounts → List ℕ
+sent_text counts = number_text (codes " messages=") counts.messages ++ number_text (codes " disclosures=") counts.disclosures
+
+-- how many handovers were, where there are several streams
+abbrev pub handover_text : Bool → ℕ → List ℕ
+handover_text false handovers = []
+handover_text true handovers = number_text (codes " handovers=") handovers
+
+-- why messages weren't sent
+unfoldable pub refused_text : FeedCounts → List ℕ
+refused_text counts =
+    number_text (codes " toolong=") counts.too_long ++ number_text (codes " early=") counts.early ++ number_text (codes " over=") counts.over
+    ++ number_text (codes " backward=") counts.backward ++ number_text (codes " full=") counts.full ++ number_text (codes " unread=") counts.unread
+
+-- the counts, each behind its name, told whether there are several streams
+abbrev pub counts_text : Bool → FeedsCounts → List ℕ
+counts_text several counts = sent_text counts.feed ++ (handover_text several counts.handovers ++ refused_text counts.feed)
 
 -- what the system tells beside the counts, of which nothing is claimed: how often a clock gave another reading than the system's, and how many datagrams the system refused to send
 unfoldable pub system_text : SystemCounts → List ℕ
 system_text system = number_text (codes " held=") system.held ++ number_text (codes " unsent=") system.unsent
 
--- the line of counts at a reading, which stands behind this word, told what the system tells beside them, and how many intervals are left
-unfoldable pub status_line : List ℕ → ℕ → FeedCounts → SystemCounts → ℕ → List ℕ
-status_line word reading counts system left = number_text word reading ++ counts_text counts ++ system_text system ++ number_text (codes " left=") left ++ codes "\n"
+-- the line of counts at a reading, which stands behind this word, told the intervals of all streams, and what the system tells beside the counts
+unfoldable pub status_line : List Times → List ℕ → ℕ → FeedsCounts → SystemCounts → List ℕ
+status_line times word reading counts system =
+    number_text word reading ++ (counts_text (are_several times) counts ++ (system_text system ++ (number_text (codes " left=") (left_in times reading) ++ codes "\n")))
 
 -- the line of a note, and the last line of a feed, of which this is the last note
-abbrev pub time_line : Times → SystemCounts → Note → List ℕ
-time_line times system note = status_line (codes "time=") note.reading note.counts system (left_at times note.reading)
+abbrev pub time_line : List Times → SystemCounts → Note → List ℕ
+time_line times system note = status_line times (codes "time=") note.reading note.counts system
 
-abbrev pub end_line : Times → SystemCounts → Note → List ℕ
-end_line times system note = status_line (codes "end=") note.reading note.counts system (left_at times note.reading)
+abbrev pub end_line : List Times → SystemCounts → Note → List ℕ
+end_line times system note = status_line times (codes "end=") note.reading note.counts system
 
 -- ---- which notes have a line
 
@@ -69,7 +89,7 @@ pub record Line : Type 0 where
 abbrev pub note_of : Line → Note
 note_of line = line.note
 
-abbrev pub line_text : Times → Line → List ℕ
+abbrev pub line_text : List Times → Line → List ℕ
 line_text times line = time_line times line.system line.note
 
 -- the last reading of the notes that could be had, and else that of the opening
@@ -83,7 +103,7 @@ abbrev pub AreLinesOf : ℕ → ℕ → List Note → List Line → Type 0
 AreLinesOf every since notes lines = map note_of lines ≡ due_notes every since notes
 
 -- a new output has the lines of these notes, told when it was opened
-pub record HasLines (times : Times) (every opening since last : ℕ) (notes : List Note) (written : Option (List ℕ)) (faults : ℕ) (failed : Bool) : Type 0 where
+pub record HasLines (times : List Times) (every opening since last : ℕ) (notes : List Note) (written : Option (List ℕ)) (faults : ℕ) (failed : Bool) : Type 0 where
   pub before : Option (List ℕ)
   pub empty : IfSome before (λ bytes. bytes ≡ [])
   pub since_is : since ≡ since_behind every opening notes
@@ -93,7 +113,7 @@ pub record HasLines (times : Times) (every opening since last : ℕ) (notes : Li
   pub puts : PutsAll (flat_map (line_text times) lines) before written faults failed
 
 -- and then the last line, of these counts
-pub record HasAllLines (times : Times) (every opening : ℕ) (notes : List Note) (counts : FeedCounts) (written : Option (List ℕ)) (faults : ℕ) (failed : Bool) : Type 0 where
+pub record HasAllLines (times : List Times) (every opening : ℕ) (notes : List Note) (counts : FeedsCounts) (written : Option (List ℕ)) (faults : ℕ) (failed : Bool) : Type 0 where
   pub before : Option (List ℕ)
   pub empty : IfSome before (λ bytes. bytes ≡ [])
   pub lines : List Line

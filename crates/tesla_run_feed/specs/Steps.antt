@@ -1,5 +1,6 @@
 -- What the inner steps of the command feed come to.
-use Rattle.std.specs.Prelude.{◌≡◌, ◌⊎◌, ℕ, suc, ◌*◌, Bool, true, false, Option, Some, None, List, [], ◌∷◌, ◌≤◌, Result, Ok, Err}
+use Rattle.std.specs.Prelude.{◌≡◌, ◌⊎◌, ℕ, ◌+◌, ◌*◌, Bool, true, false, Option, Some, None, List, [], ◌∷◌, ◌++◌, ◌≤◌, length, map, Result, Ok, Err}
+use Rattle.std.specs.List.{AllByRecursion}
 use Rattle.tesla_clock.specs.Schedule.{Times}
 use Rattle.tesla_desk.specs.Clocks.{Ticking}
 use Rattle.tesla_base.specs.declared.names.Key.{Key}
@@ -8,24 +9,28 @@ use Rattle.tesla_desk.specs.Live.{clock_told}
 use Rattle.tesla_desk.specs.Outside.{ClosesLink, ClosesSink, MakesClock, OfSource, OpensSink, Told}
 use Rattle.tesla_desk.specs.declared.desk.OpenRefusal.{OpenRefusal}
 use Rattle.tesla_desk.specs.declared.link.Letter.{Letter}
-use Rattle.tesla_feed.specs.Feed.{ComesTo, OpensFeed}
-use Rattle.tesla_feed.specs.Notes.{Note}
-use Rattle.tesla_feed.specs.declared.counts.FeedCounts.{FeedCounts}
-use Rattle.tesla_feed.specs.declared.feeding.FeedEnd.{FeedEnd}
-use Rattle.tesla_feed.specs.declared.opening.OpenFeed.{OpenFeed}
+use Rattle.tesla_feeds.specs.Feeds.{ComesTo}
+use Rattle.tesla_feeds.specs.Notes.{Note}
+use Rattle.tesla_feeds.specs.Opening.{AreListed, IsFresh, OpensFeeds, handover_listed, streams_fed, streams_listed}
+use Rattle.tesla_feeds.specs.declared.events.FeedsCounts.{FeedsCounts}
+use Rattle.tesla_feeds.specs.declared.feeding.FeedsEnd.{FeedsEnd}
+use Rattle.tesla_feeds.specs.declared.listed.Handover.{Handover}
+use Rattle.tesla_feeds.specs.declared.opening.ListedSender.{ListedSender}
+use Rattle.tesla_feeds.specs.declared.opening.OpenFeeds.{OpenFeeds}
 use Rattle.tesla_front.specs.Fault.{unopened}
 use Rattle.tesla_front.specs.OutcomeView.{OutcomeView, Failed}
-use Rattle.tesla_front.specs.Openings.{AnyFailed, Opens, file_told}
+use Rattle.tesla_front.specs.Openings.{AnyFailed, Opens, files_told}
 use Rattle.tesla_front.specs.declared.fault.Fault.{Fault}
 use Rattle.tesla_front.specs.declared.fault.Fault.TheVariants as faults
 use Rattle.tesla_relay.specs.Opening.{ClosesPosts, OpensPosts}
 use Rattle.tesla_relay.specs.Posts.{PostSeen}
-use Rattle.tesla_run_feed.specs.Arguments.{FeedArguments, StatusArguments, live_files}
-use Rattle.tesla_run_feed.specs.Feeding.{FeedsStream, LacksSoundSeeds, TouchesLive, status_page, weak_seed}
-use Rattle.tesla_run_feed.specs.Lines.{outcome_with, stream_over}
+use Rattle.tesla_run_feed.specs.Arguments.{FeedArguments, StatusArguments, live_files, sources, sources_of}
+use Rattle.tesla_run_feed.specs.Feeding.{FeedsStreams, LackSenders, LacksList, LacksSoundSeeds, TouchesLive, pages_of, status_page, weak_seed}
+use Rattle.tesla_run_feed.specs.Lines.{outcome_with, streams_over}
+use Rattle.tesla_run_feed.specs.Listing.{AreRight, all_times, are_several, list_fault}
 use Rattle.tesla_run_feed.specs.Status.{HasAllLines}
 use Rattle.tesla_run_feed.specs.declared.telling.Telling.{Telling}
-use Rattle.tesla_run_send.specs.Sender.{IsNoSender, ReadsStream, wrong_line}
+use Rattle.tesla_run_send.specs.Sender.{ReadsStream}
 use Rattle.tesla_seeds.specs.Weak.{AreSound, IsFirstWeak}
 use Rattle.tesla_seeds.specs.declared.weak.WeakSeed.{WeakSeed}
 use Rattle.tesla_sender.specs.Made.{Stream}
@@ -50,57 +55,117 @@ pub record ReadsNoSound (setup secret : List ℕ) (outcome : OutcomeView) (old n
   pub few : opened ≤ 2
   pub opens : Opens (OfSource setup ∷ OfSource secret ∷ []) opened old new
   pub live : new.live ≡ old.live
-  pub why : LacksSoundSeeds (file_told old setup) (file_told old secret) opened outcome
+  pub why : LacksSoundSeeds (old.page setup) (old.page secret) opened outcome
   pub causes : HasCauses old.faults new.faults (outcome ≡ Failed faults.Read) (outcome ≡ Failed faults.Write) (outcome ≡ Failed faults.Open)
+
+-- ---- the list
+
+-- each setup was read with its seeds, in order, and these are sound; all else is as before
+abbrev pub ReadsEach : List (List ℕ) → List (List ℕ) → List Stream → Told → Told → Type 0
+ReadsEach [] [] [] old new = new ≡ old
+ReadsEach (setup ∷ setups) (secret ∷ secrets) (stream ∷ streams) old new =
+    (mid : Told) × ReadsSound setup secret stream old mid × ReadsEach setups secrets streams mid new
+ReadsEach setups secrets streams old new = ⊥
+
+-- the first setup that has no sound seeds was the last that was read
+abbrev pub ReadsNotEach : List (List ℕ) → List (List ℕ) → OutcomeView → Told → Told → Type 0
+ReadsNotEach (setup ∷ setups) (secret ∷ secrets) outcome old new =
+    ReadsNoSound setup secret outcome old new
+    ⊎ ((stream : Stream) × (mid : Told) × ReadsSound setup secret stream old mid × ReadsNotEach setups secrets outcome mid new)
+ReadsNotEach setups secrets outcome old new = ⊥
+
+-- these were read, and put behind those that were before
+pub record PutsEach (setups secrets : List (List ℕ)) (first now : List Stream) (old new : Told) : Type 0 where
+  pub streams : List Stream
+  pub is : now ≡ first ++ streams
+  pub reads : ReadsEach setups secrets streams old new
+
+-- a list of streams was read
+pub record ReadsList (setups secrets : List (List ℕ)) (streams : List Stream) (old new : Told) : Type 0 where
+  pub reads : ReadsEach setups secrets streams old new
+  pub fits : list_fault streams ≡ None
+
+-- there is no list of streams, so many of the files were opened, and each failure raised its count
+pub record ReadsNoList (setups secrets : List (List ℕ)) (outcome : OutcomeView) (old new : Told) : Type 0 where
+  pub opened : ℕ
+  pub opens : Opens (sources setups secrets) opened old new
+  pub few : opened ≤ length (sources setups secrets)
+  pub live : new.live ≡ old.live
+  pub why : LacksList setups (pages_of (files_told old (sources setups secrets))) (length (sources setups secrets)) opened outcome
+  pub causes : HasCauses old.faults new.faults (outcome ≡ Failed faults.Read) (outcome ≡ Failed faults.Write) (outcome ≡ Failed faults.Open)
+
+-- ---- the senders
+
+-- a sender of each of these streams was put behind those that were before, with these handovers
+pub record PutsSenders (streams : List Stream) (handovers : List (Option Handover)) (first now : List ListedSender) : Type 0 where
+  pub added : List ListedSender
+  pub is : now ≡ first ++ added
+  pub fresh : AllByRecursion IsFresh added
+  pub streams_are : streams_listed added ≡ streams
+  pub handovers_are : map handover_listed added ≡ handovers
+  pub right : AreRight streams
+
+-- a sender of each of these streams, with its handover, and the intervals of each
+pub record AreSenders (streams : List Stream) (senders : List ListedSender) : Type 0 where
+  pub listed : AreListed senders
+  pub streams_are : streams_listed senders ≡ streams
+  pub right : AreRight streams
 
 -- ---- the opening
 
--- no sender of the stream was opened, and nothing else was done
-pub record LacksSender (stream : Stream) (posts : List PostSeen) (before now : Told) (outcome : OutcomeView) : Type 0 where
+-- not all senders of the streams were opened, and nothing else was done
+pub record LacksSender (streams : List Stream) (posts : List PostSeen) (before now : Told) (outcome : OutcomeView) : Type 0 where
   pub none : posts ≡ []
   pub same : now ≡ before
-  pub why : IsNoSender stream outcome
+  pub why : LackSenders streams outcome
 
--- a clock was made that tells this by now, and a feed of the stream was opened with it, or is over
-pub record OpensByClock (stream : Stream) (feed : Option OpenFeed) (ticking : Option Ticking) (before now : Told) : Type 0 where
-  pub opens : OpensFeed stream feed (clock_told before.live.readings before.live.made) ticking
+-- a clock was made that tells this by now, and a feed of the streams was opened with it, or all are over
+pub record OpensByClock (streams : List Stream) (feed : Option OpenFeeds) (ticking : Option Ticking) (before now : Told) : Type 0 where
+  pub opens : OpensFeeds streams feed (clock_told before.live.readings before.live.made) ticking
   pub makes : MakesClock before now
 
 -- a feed was opened so, and then a post under each of the names, until an opening was refused
-pub record OpensFeeding (stream : Stream) (names : List (List ℕ)) (feed : OpenFeed) (ticking : Option Ticking) (posts : List PostSeen) (result : Result (Unit {0}) Fault) (before now : Told) : Type 0 where
+pub record OpensFeeding (streams : List Stream) (names : List (List ℕ)) (feed : OpenFeeds) (ticking : Option Ticking) (posts : List PostSeen) (result : Result (Unit {0}) Fault) (before now : Told) : Type 0 where
   pub clocked : Told
-  pub opens : OpensByClock stream (Some feed) ticking before clocked
+  pub opens : OpensByClock streams (Some feed) ticking before clocked
   pub posts_open : OpensPosts names clocked now [] posts result
 
--- the stream was over: no post was opened
-pub record StopsOver (stream : Stream) (posts : List PostSeen) (before now : Told) (outcome : OutcomeView) : Type 0 where
+-- all streams were over: no post was opened
+pub record StopsOver (streams : List Stream) (posts : List PostSeen) (before now : Told) (outcome : OutcomeView) : Type 0 where
   pub ticking : Option Ticking
-  pub opens : OpensByClock stream None ticking before now
+  pub opens : OpensByClock streams None ticking before now
   pub none : posts ≡ []
-  pub outcome_is : outcome ≡ stream_over
+  pub outcome_is : outcome ≡ streams_over
+
+-- there was no memory for the feed once a clock was made: no post was opened
+pub record StopsRoomless (posts : List PostSeen) (before now : Told) (outcome : OutcomeView) : Type 0 where
+  pub makes : MakesClock before now
+  pub none : posts ≡ []
+  pub outcome_is : outcome ≡ Failed faults.NoMemory
 
 -- the opening of a post was refused
-pub record RefusesPost (stream : Stream) (names : List (List ℕ)) (posts : List PostSeen) (before now : Told) (outcome : OutcomeView) : Type 0 where
-  pub feed : OpenFeed
+pub record RefusesPost (streams : List Stream) (names : List (List ℕ)) (posts : List PostSeen) (before now : Told) (outcome : OutcomeView) : Type 0 where
+  pub feed : OpenFeeds
   pub ticking : Option Ticking
   pub fault : Fault
-  pub opens : OpensFeeding stream names feed ticking posts (Err fault) before now
+  pub opens : OpensFeeding streams names feed ticking posts (Err fault) before now
   pub outcome_is : outcome ≡ Failed fault
 
--- with a sender of the stream not all was opened
-abbrev pub OpensNoFeeding : Stream → List (List ℕ) → List PostSeen → Told → Told → OutcomeView → Type 0
-OpensNoFeeding stream names posts before now outcome = StopsOver stream posts before now outcome ⊎ RefusesPost stream names posts before now outcome
+-- with the senders of the streams not all was opened
+abbrev pub OpensNoFeeding : List Stream → List (List ℕ) → List PostSeen → Told → Told → OutcomeView → Type 0
+OpensNoFeeding streams names posts before now outcome =
+    StopsOver streams posts before now outcome ⊎ StopsRoomless posts before now outcome ⊎ RefusesPost streams names posts before now outcome
 
--- there was no sender of the stream; or there was one, since the seeds are right, and not all was opened
-abbrev pub IsUnready : Stream → List (List ℕ) → List PostSeen → Told → Told → OutcomeView → Type 0
-IsUnready stream names posts before now outcome =
-    LacksSender stream posts before now outcome ⊎ ((wrong_line stream ≡ None) × OpensNoFeeding stream names posts before now outcome)
+-- not all streams have a sender; or all have, since the seeds are right, and not all was opened
+abbrev pub IsUnready : List Stream → List (List ℕ) → List PostSeen → Told → Told → OutcomeView → Type 0
+IsUnready streams names posts before now outcome =
+    LacksSender streams posts before now outcome ⊎ (AreRight streams × OpensNoFeeding streams names posts before now outcome)
 
 -- ---- STATUS
 
 -- what counts are told by, where nothing is said of that
 abbrev pub no_telling : Telling
-no_telling = record { schedule = record { start = 0; length = 0; last = 0 }; opening = 0; every = 0; name = [] }
+no_telling = record { schedules = []; opening = 0; every = 0; name = [] }
 
 -- the opening of STATUS was refused
 abbrev pub RefusesStatus : Option StatusArguments → Told → Told → Fault → Type 0
@@ -108,7 +173,7 @@ RefusesStatus None before now fault = ⊥
 RefusesStatus (Some status) before now fault = (refusal : OpenRefusal) × OpensSink {A = Unit {0}} status.output (Err refusal) before now × (fault ≡ unopened refusal)
 
 -- STATUS was opened, the lines of these notes and of all counts were written to it, and it was closed
-pub record WritesLines (status : StatusArguments) (times : Times) (opening : ℕ) (counts : FeedCounts) (before now : Told) (failed : Bool) (notes : List Note) : Type 0 where
+pub record WritesLines (status : StatusArguments) (times : List Times) (opening : ℕ) (counts : FeedsCounts) (before now : Told) (failed : Bool) (notes : List Note) : Type 0 where
   pub opened : Told
   pub opens : OpensSink {A = Unit {0}} status.output (Ok tt) before opened
   pub written : Option (List ℕ)
@@ -117,24 +182,24 @@ pub record WritesLines (status : StatusArguments) (times : Times) (opening : ℕ
   pub closes : ClosesSink status.output written faults opened now
 
 -- the same where there is a STATUS; where there is none it didn't fail
-abbrev pub WritesStatus : Option StatusArguments → Times → ℕ → FeedCounts → Told → Told → Bool → List Note → Type 0
+abbrev pub WritesStatus : Option StatusArguments → List Times → ℕ → FeedsCounts → Told → Told → Bool → List Note → Type 0
 WritesStatus None times opening counts before now failed notes = (now ≡ before) × (failed ≡ false)
 WritesStatus (Some status) times opening counts before now failed notes = WritesLines status times opening counts before now failed notes
 
 -- ---- the link and the posts
 
 -- an open link was fed to open posts, with a clock that told this before, or the run was asked to end; this was told of the counts
-pub record FeedsPosts (over : Bool) (stream : Stream) (opening : ℕ) (end : FeedEnd) (left later : Option (List Letter)) (ticking : Option Ticking) (posts posts_now : List PostSeen) (was_told : List Note → Type 0) : Type 0 where
+pub record FeedsPosts (over : Bool) (streams : List Stream) (opening : ℕ) (end : FeedsEnd) (left later : Option (List Letter)) (ticking : Option Ticking) (posts posts_now : List PostSeen) (was_told : List Note → Type 0) : Type 0 where
   pub after : Option Ticking
-  pub comes : ComesTo over stream opening end left later ticking after posts posts_now was_told
+  pub comes : ComesTo over streams opening end left later ticking after posts posts_now was_told
 
--- that, and STATUS was written meanwhile
-pub record FeedsCounted (over : Bool) (stream : Stream) (opening : ℕ) (status : Option StatusArguments) (left later : Option (List Letter)) (missed missed_now : ℕ) (ticking : Option Ticking) (before now : Told) (posts posts_now : List PostSeen) (outcome : OutcomeView) : Type 0 where
-  pub end : FeedEnd
+-- that, and STATUS was written meanwhile, told the intervals of all streams of the list
+pub record FeedsCounted (over : Bool) (times : List Times) (streams : List Stream) (opening : ℕ) (status : Option StatusArguments) (left later : Option (List Letter)) (missed missed_now : ℕ) (ticking : Option Ticking) (before now : Told) (posts posts_now : List PostSeen) (outcome : OutcomeView) : Type 0 where
+  pub end : FeedsEnd
   pub status_failed : Bool
-  pub fed : FeedsPosts over stream opening end left later ticking posts posts_now (WritesStatus status stream.setup.times opening end.counts before now status_failed)
+  pub fed : FeedsPosts over streams opening end left later ticking posts posts_now (WritesStatus status times opening end.counts before now status_failed)
   pub read : HasCause missed missed_now (end.link_failed ≡ true)
-  pub outcome_is : outcome ≡ outcome_with end status_failed
+  pub outcome_is : outcome ≡ outcome_with (are_several times) end status_failed
 
 -- STATUS wasn't opened, and the link and the posts are as before
 pub record LacksStatus (status : Option StatusArguments) (left later : Option (List Letter)) (missed missed_now : ℕ) (before now : Told) (posts posts_now : List PostSeen) (outcome : OutcomeView) : Type 0 where
@@ -145,34 +210,34 @@ pub record LacksStatus (status : Option StatusArguments) (left later : Option (L
   pub outcome_is : outcome ≡ Failed fault
 
 -- what is done with a link and posts that are open
-abbrev pub FeedsReady : Bool → Stream → ℕ → Option StatusArguments → Option (List Letter) → Option (List Letter) → ℕ → ℕ → Option Ticking → Told → Told → List PostSeen → List PostSeen → OutcomeView → Type 0
-FeedsReady over stream opening status left later missed missed_now ticking before now posts posts_now outcome =
+abbrev pub FeedsReady : Bool → List Times → List Stream → ℕ → Option StatusArguments → Option (List Letter) → Option (List Letter) → ℕ → ℕ → Option Ticking → Told → Told → List PostSeen → List PostSeen → OutcomeView → Type 0
+FeedsReady over times streams opening status left later missed missed_now ticking before now posts posts_now outcome =
     LacksStatus status left later missed missed_now before now posts posts_now outcome
-    ⊎ FeedsCounted over stream opening status left later missed missed_now ticking before now posts posts_now outcome
+    ⊎ FeedsCounted over times streams opening status left later missed missed_now ticking before now posts posts_now outcome
 
 -- the posts were opened, and that was done
-pub record FeedsOpen (over : Bool) (stream : Stream) (names : List (List ℕ)) (status : Option StatusArguments) (left later : Option (List Letter)) (missed missed_now : ℕ) (before now : Told) (posts : List PostSeen) (outcome : OutcomeView) : Type 0 where
-  pub feed : OpenFeed
+pub record FeedsOpen (over : Bool) (streams : List Stream) (names : List (List ℕ)) (status : Option StatusArguments) (left later : Option (List Letter)) (missed missed_now : ℕ) (before now : Told) (posts : List PostSeen) (outcome : OutcomeView) : Type 0 where
+  pub feed : OpenFeeds
   pub ticking : Option Ticking
   pub fresh : List PostSeen
   pub opened : Told
-  pub opens : OpensFeeding stream names feed ticking fresh (Ok tt) before opened
-  pub feeds : FeedsReady over feed.sender.stream feed.opening status left later missed missed_now ticking opened now fresh posts outcome
+  pub opens : OpensFeeding streams names feed ticking fresh (Ok tt) before opened
+  pub feeds : FeedsReady over (all_times streams) (streams_fed feed.feeders) feed.opening status left later missed missed_now ticking opened now fresh posts outcome
 
--- that, and the seeds are right; or not all posts were opened, and the link is as before
-abbrev pub TriesToFeed : Bool → Stream → List (List ℕ) → Option StatusArguments → Option (List Letter) → Option (List Letter) → ℕ → ℕ → Told → Told → List PostSeen → OutcomeView → Type 0
-TriesToFeed over stream names status left later missed missed_now before now posts outcome =
-    (IsUnready stream names posts before now outcome × (later ≡ left) × (missed_now ≡ missed))
-    ⊎ ((wrong_line stream ≡ None) × FeedsOpen over stream names status left later missed missed_now before now posts outcome)
+-- that, and all seeds are right; or not all posts were opened, and the link is as before
+abbrev pub TriesToFeed : Bool → List Stream → List (List ℕ) → Option StatusArguments → Option (List Letter) → Option (List Letter) → ℕ → ℕ → Told → Told → List PostSeen → OutcomeView → Type 0
+TriesToFeed over streams names status left later missed missed_now before now posts outcome =
+    (IsUnready streams names posts before now outcome × (later ≡ left) × (missed_now ≡ missed))
+    ⊎ (AreRight streams × FeedsOpen over streams names status left later missed missed_now before now posts outcome)
 
 -- and then all was closed, the posts first
-pub record RunsLinked (over : Bool) (stream : Stream) (names : List (List ℕ)) (status : Option StatusArguments) (link : List ℕ) (left : Option (List Letter)) (old new : Told) (outcome : OutcomeView) : Type 0 where
+pub record RunsLinked (over : Bool) (streams : List Stream) (names : List (List ℕ)) (status : Option StatusArguments) (link : List ℕ) (left : Option (List Letter)) (old new : Told) (outcome : OutcomeView) : Type 0 where
   pub later : Option (List Letter)
   -- so often a call of the link failed
   pub missed : ℕ
   pub posts : List PostSeen
   pub tried : Told
-  pub tries : TriesToFeed over stream names status left later 0 missed old tried posts outcome
+  pub tries : TriesToFeed over streams names status left later 0 missed old tried posts outcome
   pub closed : Told
   pub posts_closed : ClosesPosts posts tried closed
   pub link_closed : ClosesLink link later missed closed new
@@ -184,10 +249,10 @@ abbrev pub Counts : FeedArguments → Faults → Told → OutcomeView → Type 0
 Counts arguments before new outcome =
     HasCausesBeside ((outcome ≡ Failed faults.Read) × AnyFailed (live_files arguments) new) before new.faults (outcome ≡ Failed faults.Read) (outcome ≡ Failed faults.Write) (outcome ≡ Failed faults.Open)
 
--- with a stream the link was fed to the posts, after it was opened and then they were
-pub record FeedsFiles (over : Bool) (stream : Stream) (arguments : FeedArguments) (old new : Told) (outcome : OutcomeView) : Type 0 where
+-- with a list of streams the link was fed to the posts, after it was opened and then they were
+pub record FeedsFiles (over : Bool) (streams : List Stream) (arguments : FeedArguments) (old new : Told) (outcome : OutcomeView) : Type 0 where
   pub opened : ℕ
   pub opens : Opens (live_files arguments) opened old new
   pub touches : TouchesLive arguments.link arguments.posts old.live new.live
-  pub does : FeedsStream over arguments stream (suc (suc opened)) old.live new.live (status_page arguments old) (status_page arguments new) outcome
+  pub does : FeedsStreams over arguments streams (length (sources_of arguments) + opened) old.live new.live (status_page arguments old) (status_page arguments new) outcome
   pub counts : Counts arguments old.faults new outcome

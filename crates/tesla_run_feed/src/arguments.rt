@@ -15,13 +15,13 @@ pub struct StatusWords<'a> {
     ghost few: { every ≤ 3600 },
 }
 
-/// What the words `feed SETUP SECRET LINK POSTS` ask for, or those with `STATUS EVERY` behind them.
+/// What the words `feed SETUPS SECRETS LINK POSTS` ask for, or those with `STATUS EVERY` behind them.
 #[derive(Drop)]
 pub struct Arguments<'a> {
-    /// The name of the setup.
-    pub setup: &'a str,
-    /// The name of the seeds.
-    pub secret: &'a str,
+    /// The names of the setups, 1 to 16, in the order of the streams.
+    pub setups: Names<'a>,
+    /// The names of the seeds, one for each setup.
+    pub secrets: Names<'a>,
     /// The name of the link.
     pub link: &'a str,
     /// The names of the posts, 1 to 32.

@@ -7,9 +7,11 @@ mod counted;
 mod form;
 mod line;
 mod lines;
+mod listing;
 mod ready;
 mod run;
 mod seeds;
+mod senders;
 mod telling;
 
 pub use form::{FEED, FEED_STATUS};

@@ -1,55 +1,54 @@
 //! A run of the command `feed`.
 
-ghost use Rattle.std.specs.Prelude.{◌≡◌, ◌≤◌, ℕ, [], List, None, length, map, option_map, string_bytes, true, vec_capacity};
+ghost use Rattle.std.specs.Prelude.{◌≡◌, ◌≤◌, ℕ, [], List, length, map, option_map, string_bytes, true, vec_capacity};
 ghost use Rattle.tesla_front.specs.OutcomeView.{result_view, outcome_view};
 ghost use Rattle.tesla_front.specs.Command.{Performs, RunsAs};
 ghost use Rattle.tesla_relay.specs.Opening.{name_of};
 ghost use Rattle.tesla_relay.specs.Posts.{PostSeen};
-ghost use Rattle.tesla_run_send.specs.Sender.{stream_in, wrong_line};
-ghost use Rattle.tesla_feed.specs.Due.{MaySendDue};
 ghost use Rattle.tesla_run_feed.specs.Arguments.{IsFeedForm, arguments_of, status_of};
-ghost use Rattle.tesla_run_feed.specs.Due.{IsCountedFor, IsCountedFrom, IsFedFor, IsFedFrom, MayWriteCounts};
+ghost use Rattle.tesla_run_feed.specs.Due.{IsCountedFor, IsCountedFrom, IsFedFor, IsFedFrom, MaySendLasting, MayWriteLasting};
 ghost use Rattle.tesla_run_feed.specs.Feeding.{feed};
+ghost use Rattle.tesla_run_feed.specs.Listing.{AreRight, HaveSeeds, streams_in};
 ghost use Rattle.tesla_run_feed.specs.Steps.{FeedsFiles, RunsLinked, TriesToFeed};
 
 use crate::arguments::{Arguments, StatusWords};
 use crate::counted::feed_open;
 use crate::form::arguments_in;
+use crate::listing::{SeededSetups, read_list};
 use crate::ready::open_ready;
-use crate::seeds::read_sound;
 use std::alloc::Global;
 use std::sync::Wait;
 use std::thread::Threads;
 use tesla_desk::Observed;
 use tesla_front::{Fault, Lines, Outcome, Stop, outcome_of};
 use tesla_relay::close_posts;
-use tesla_run_send::SeededSetup;
 
-/// Runs the words as those of `feed`: each datagram that leaves LINK is a message of the sender of SETUP with the seeds
-/// in SECRET, at the reading of the clock when it came, and its frame is sent by each of POSTS in their order. Keys are
-/// sent when they are due, also while nothing comes, and after the end of LINK until the key of the last message was
-/// sent. SECRET is opened after SETUP was judged, and LINK after SECRET was read and room for the posts was taken; so
-/// what comes while the key chains are opened waits in LINK. The sender is opened with the seeds once LINK is open, and
-/// then the next clock is made, and read until it can be. Unless the stream is over at that reading, the posts are
-/// opened in order, until an opening is refused, and behind them STATUS, where there is one: it gets a line of the
+/// Runs the words as those of `feed`: each datagram that leaves LINK is a message of the first of the streams of SETUPS
+/// that hasn't ended, with the seeds in SECRETS, at the reading of the clock when it came, and its frame is sent by each of
+/// POSTS in their order. Each stream but the last hands over to the next one in time. Keys are sent when they are due, also
+/// while nothing comes, and after the end of LINK until the keys of the last messages and handovers were sent. Each of
+/// SECRETS is opened after the setup at its place was judged, and LINK after all were read and room for the posts was
+/// taken; so what comes while the key chains are opened waits in LINK. The senders are opened with the seeds once LINK is
+/// open, and then the next clock is made, and read until it can be. Unless all streams are over at that reading, the posts
+/// are opened in order, until an opening is refused, and behind them STATUS, where there is one: it gets a line of the
 /// counts every EVERY seconds by that clock, and one at the end. A STATUS that fails gets no further line, and stops
 /// nothing. Where the gate tells before the first interval that the run was asked to end, nothing is sent.
 ///
-/// `Done` with the lines of how many messages and disclosures were sent, how many messages were refused by each cause,
-/// and how many came while the clock couldn't be read: LINK has ended, and no post failed, nor STATUS; or the run was
-/// asked to end before the first interval. `Usage` exactly where the words are no form, and then nothing was opened.
-/// `Refused` with the first refused line of SETUP or of SECRET, or with the line of the first seed that is all zeros or
-/// that a chain before has too, where no file behind it was opened; or with the line of the first seed that doesn't
-/// give the key of SETUP; or with `setup 0 Over`, where the stream is over: that reading lies behind the end of the
-/// last interval by more than the greatest delay and 64 intervals, as where the start was written in seconds. In both
-/// of these LINK was opened, nothing left it, and no post was opened. `Failed` with `Read`: SETUP or SECRET was not
-/// read, or LINK failed; with `Write`: a post or STATUS failed, and LINK didn't; with `Open` or `NoMemory`: nothing was
-/// fed. `Read`, `Write` and `Open` come only where the desk's count of that rose. It waits for the clock and for LINK.
+/// `Done` with the lines of how many messages and disclosures were sent, how many handovers, where there are several
+/// streams, how many messages were refused by each cause, and how many came while the clock couldn't be read: LINK has
+/// ended, and no post failed, nor STATUS; or the run was asked to end before the first interval. `Usage` exactly where the
+/// words are no form, and then nothing was opened. `Refused` as `read_list` tells, where no file behind what is wrong was
+/// opened; or with the line of the first seed that doesn't give the key of its setup; or with `setup 0 Over`, where all
+/// streams are over: that reading lies behind the end of the last interval of each by more than the greatest delay and
+/// 64 intervals, as where the start was written in seconds. In both of these LINK was opened, nothing left it, and no post
+/// was opened. `Failed` with `Read`: a setup or seeds were not read, or LINK failed; with `Write`: a post or STATUS failed,
+/// and LINK didn't; with `Open` or `NoMemory`: nothing was fed. `Read`, `Write` and `Open` come only where the desk's count
+/// of that rose. It waits for the clock and for LINK.
 ///
-/// Also in a run that never returns, POSTS alone are sent anything, and each only what is due: the frames of one log of
-/// that sender, in order and each once, made of all datagrams that LINK brought, at readings that the clock gave when
-/// it was asked for them, and of keys that are due at readings that it gave. And STATUS alone is written: the lines of
-/// the counts of such datagrams at such readings.
+/// Also in a run that never returns, POSTS alone are sent anything, and each only what is due: the frames of one feed over
+/// those streams that weren't over at a reading of the clock, in order and each once, made of all datagrams that LINK
+/// brought, at readings that the clock gave when it was asked for them, and of handovers and keys that are due at readings
+/// that it gave. And STATUS alone is written: the lines of the counts of such datagrams at such readings.
 pub fn run_feed<R: Threads + Wait + Sync, D: Observed>(
     rt: &R,
     alloc: Global,
@@ -90,33 +89,35 @@ fn perform<R: Threads + Wait + Sync, D: Observed>(
         → D.Pieces.may_write it piece ≡ true }
     ensures { Performs (feed D.Pause.over (D.told desk.old).live (D.told desk.new).live) (arguments_of arguments.now) (D.told desk.old) (D.told desk.new) (result_view result) }
 {
-    let seeded = read_sound(alloc, arguments, desk)?;
-    feed_files(rt, alloc, seeded, arguments, desk)
+    let list = read_list(alloc, arguments, desk)?;
+    feed_files(rt, alloc, list, arguments, desk)
 }
 
 // Takes room for the posts, opens the link, and feeds it to the posts.
 fn feed_files<R: Threads + Wait + Sync, D: Observed>(
     rt: &R,
     alloc: Global,
-    seeded: SeededSetup,
+    list: SeededSetups,
     arguments: &Arguments<'_>,
     desk: &mut D,
 ) -> Result<Lines, Stop>
     requires form { (spelled : List (List ℕ)) × IsFeedForm (arguments_of arguments.now) spelled }
-    requires count { length seeded.seeds ≡ length seeded.setup.rows }
+    requires each { length list.seeds.items ≡ length list.setups.items }
+    requires size { length list.setups.items ≤ 16 }
+    requires have { HaveSeeds (streams_in list) }
     requires asks { (number : ℕ) (bytes : List ℕ) → D.Wire.brought number bytes ≡ true → D.Time.may_ask number bytes ≡ true }
     requires any_link { (link : D.Wire) → D.Wire.may_ask link ≡ true }
     requires due { let seen : D.Port → PostSeen = λ post. record { name = D.Port.name post; sent = D.Port.sent post; faults = D.Port.faults post } in
-        wrong_line (stream_in seeded) ≡ None → MaySendDue seen D.Port.may_send D.Time.gave D.Time.read_for (arguments_of arguments.now).posts (stream_in seeded) }
-    requires counted { wrong_line (stream_in seeded) ≡ None → MayWriteCounts D.Pieces.name D.Pieces.written D.Pieces.may_write D.Time.gave D.Time.read_for (arguments_of arguments.now).status (stream_in seeded) }
-    ensures { FeedsFiles D.Pause.over (stream_in seeded) (arguments_of arguments.now) (D.told desk.old) (D.told desk.new) (result_view result) }
+        AreRight (streams_in list) → MaySendLasting seen D.Port.may_send D.Time.gave D.Time.read_for (arguments_of arguments.now).posts (streams_in list) }
+    requires counted { AreRight (streams_in list) → MayWriteLasting D.Pieces.name D.Pieces.written D.Pieces.may_write D.Time.gave D.Time.read_for (arguments_of arguments.now).status (streams_in list) }
+    ensures { FeedsFiles D.Pause.over (streams_in list) (arguments_of arguments.now) (D.told desk.old) (D.told desk.new) (result_view result) }
 {
     let Ok(posts) = Vec::with_capacity(alloc, arguments.posts.len()) else {
         return Err(Stop::Failed(Fault::NoMemory));
     };
     match desk.open_link(arguments.link) {
         Ok(link) => {
-            let parts = SenderParts { alloc, seeded };
+            let parts = ListParts { alloc, list };
             let outputs = Outputs {
                 names: arguments.posts.as_slice(),
                 status: &arguments.status,
@@ -130,10 +131,10 @@ fn feed_files<R: Threads + Wait + Sync, D: Observed>(
     }
 }
 
-// What the sender of a feed is opened with.
-struct SenderParts {
+// What the senders of a feed are opened with.
+struct ListParts {
     alloc: Global,
-    seeded: SeededSetup,
+    list: SeededSetups,
 }
 
 // What a feed goes to: the posts under these names, and the file of its counts, where there is one.
@@ -146,13 +147,15 @@ struct Outputs<'a> {
 // Feeds an open link to the posts under these names, writes the counts to STATUS meanwhile, and closes all.
 fn run_linked<R: Threads + Wait + Sync, D: Observed>(
     rt: &R,
-    parts: SenderParts,
+    parts: ListParts,
     outputs: Outputs<'_>,
     mut link: D::Wire,
     desk: &mut D,
     mut posts: Vec<D::Port>,
 ) -> Result<Lines, Stop>
-    requires count { length parts.seeded.seeds ≡ length parts.seeded.setup.rows }
+    requires each { length parts.list.seeds.items ≡ length parts.list.setups.items }
+    requires size { length parts.list.setups.items ≤ 16 }
+    requires have { HaveSeeds (streams_in parts.list) }
     requires few { length outputs.names.now ≤ 32 }
     requires fresh { D.Wire.faults link ≡ 0 }
     requires none { D.Wire.has_brought link 0 ≡ true }
@@ -161,9 +164,9 @@ fn run_linked<R: Threads + Wait + Sync, D: Observed>(
     requires asks { (number : ℕ) (bytes : List ℕ) → D.Wire.brought number bytes ≡ true → D.Time.may_ask number bytes ≡ true }
     requires any_link { (link : D.Wire) → D.Wire.may_ask link ≡ true }
     requires due { let seen : D.Port → PostSeen = λ post. record { name = D.Port.name post; sent = D.Port.sent post; faults = D.Port.faults post } in
-        wrong_line (stream_in parts.seeded) ≡ None → MaySendDue seen D.Port.may_send D.Time.gave D.Time.read_for (map name_of outputs.names.now) (stream_in parts.seeded) }
-    requires counted { wrong_line (stream_in parts.seeded) ≡ None → MayWriteCounts D.Pieces.name D.Pieces.written D.Pieces.may_write D.Time.gave D.Time.read_for (option_map status_of outputs.status.now) (stream_in parts.seeded) }
-    ensures { RunsLinked D.Pause.over (stream_in parts.seeded) (map name_of outputs.entry.names.now) (option_map status_of outputs.entry.status.now) (D.Wire.name link) (D.Wire.left link) (D.told desk.old) (D.told desk.new) (result_view result) }
+        AreRight (streams_in parts.list) → MaySendLasting seen D.Port.may_send D.Time.gave D.Time.read_for (map name_of outputs.names.now) (streams_in parts.list) }
+    requires counted { AreRight (streams_in parts.list) → MayWriteLasting D.Pieces.name D.Pieces.written D.Pieces.may_write D.Time.gave D.Time.read_for (option_map status_of outputs.status.now) (streams_in parts.list) }
+    ensures { RunsLinked D.Pause.over (streams_in parts.list) (map name_of outputs.entry.names.now) (option_map status_of outputs.entry.status.now) (D.Wire.name link) (D.Wire.left link) (D.told desk.old) (D.told desk.new) (result_view result) }
 {
     let outcome = try_to_feed(rt, parts, outputs, &mut link, desk, &mut posts);
     close_posts(desk, &mut posts);
@@ -175,13 +178,15 @@ fn run_linked<R: Threads + Wait + Sync, D: Observed>(
 // Opens the sender, a feed of it and the posts, and feeds an open link to them, with STATUS, where there is one.
 fn try_to_feed<R: Threads + Wait + Sync, D: Observed>(
     rt: &R,
-    parts: SenderParts,
+    parts: ListParts,
     outputs: Outputs<'_>,
     link: &mut D::Wire,
     desk: &mut D,
     posts: &mut Vec<D::Port>,
 ) -> Result<Lines, Stop>
-    requires count { length parts.seeded.seeds ≡ length parts.seeded.setup.rows }
+    requires each { length parts.list.seeds.items ≡ length parts.list.setups.items }
+    requires size { length parts.list.setups.items ≤ 16 }
+    requires have { HaveSeeds (streams_in parts.list) }
     requires few { length outputs.names.now ≤ 32 }
     requires empty { posts.old.items ≡ [] }
     requires room { length outputs.names.now ≤ vec_capacity posts.old }
@@ -189,12 +194,12 @@ fn try_to_feed<R: Threads + Wait + Sync, D: Observed>(
     requires asks { (number : ℕ) (bytes : List ℕ) → D.Wire.brought number bytes ≡ true → D.Time.may_ask number bytes ≡ true }
     requires any_link { (link : D.Wire) → D.Wire.may_ask link ≡ true }
     requires due { let seen : D.Port → PostSeen = λ post. record { name = D.Port.name post; sent = D.Port.sent post; faults = D.Port.faults post } in
-        wrong_line (stream_in parts.seeded) ≡ None → MaySendDue seen D.Port.may_send D.Time.gave D.Time.read_for (map name_of outputs.names.now) (stream_in parts.seeded) }
-    requires counted { wrong_line (stream_in parts.seeded) ≡ None → MayWriteCounts D.Pieces.name D.Pieces.written D.Pieces.may_write D.Time.gave D.Time.read_for (option_map status_of outputs.status.now) (stream_in parts.seeded) }
-    ensures tries { TriesToFeed D.Pause.over (stream_in parts.seeded) (map name_of outputs.entry.names.now) (option_map status_of outputs.entry.status.now) (D.Wire.left link.old) (D.Wire.left link.new) (D.Wire.faults link.old) (D.Wire.faults link.new) (D.told desk.old) (D.told desk.new) (map (λ post. record { name = D.Port.name post; sent = D.Port.sent post; faults = D.Port.faults post }) posts.new.items) (result_view result) }
+        AreRight (streams_in parts.list) → MaySendLasting seen D.Port.may_send D.Time.gave D.Time.read_for (map name_of outputs.names.now) (streams_in parts.list) }
+    requires counted { AreRight (streams_in parts.list) → MayWriteLasting D.Pieces.name D.Pieces.written D.Pieces.may_write D.Time.gave D.Time.read_for (option_map status_of outputs.status.now) (streams_in parts.list) }
+    ensures tries { TriesToFeed D.Pause.over (streams_in parts.list) (map name_of outputs.entry.names.now) (option_map status_of outputs.entry.status.now) (D.Wire.left link.old) (D.Wire.left link.new) (D.Wire.faults link.old) (D.Wire.faults link.new) (D.told desk.old) (D.told desk.new) (map (λ post. record { name = D.Port.name post; sent = D.Port.sent post; faults = D.Port.faults post }) posts.new.items) (result_view result) }
     ensures name { D.Wire.name link.new ≡ D.Wire.name link.old }
 {
-    let SenderParts { alloc, seeded } = parts;
-    let ready = open_ready(rt, alloc, seeded, outputs.names, desk, posts)?;
+    let ListParts { alloc, list } = parts;
+    let ready = open_ready(rt, alloc, list, outputs.names, desk, posts)?;
     feed_open(rt, ready, outputs.status, link, desk, posts)
 }

@@ -6,7 +6,6 @@ ghost use Rattle.tesla_run_send.specs.Sender.{stream_in};
 ghost use Rattle.tesla_seeds.specs.Weak.{AreSound};
 ghost use Rattle.tesla_run_feed.specs.Steps.{IsWeak, ReadsNoSound, ReadsSound};
 
-use crate::arguments::Arguments;
 use std::alloc::Global;
 use tesla_base::Kind;
 use tesla_desk::Environment;
@@ -21,14 +20,15 @@ use tesla_seeds::{Seeds, first_weak};
 /// `Failed` with `Read` or `Open` exactly where the count of that rose, and with `NoMemory`.
 pub fn read_sound<D: Environment>(
     alloc: Global,
-    arguments: &Arguments<'_>,
+    setup: &str,
+    secret: &str,
     desk: &mut D,
 ) -> Result<SeededSetup, Stop>
-    ensures read { IfOk result (λ seeded. ReadsSound arguments.now.setup.now arguments.now.secret.now (stream_in seeded) (D.told desk.old) (D.told desk.new)) }
+    ensures read { IfOk result (λ seeded. ReadsSound setup.now secret.now (stream_in seeded) (D.told desk.old) (D.told desk.new)) }
     ensures count { IfOk result (λ seeded. length seeded.seeds ≡ length seeded.setup.rows) }
-    ensures refused { IfErr result (λ stop. ReadsNoSound arguments.now.setup.now arguments.now.secret.now (stop_view stop) (D.told desk.old) (D.told desk.new)) }
+    ensures refused { IfErr result (λ stop. ReadsNoSound setup.now secret.now (stop_view stop) (D.told desk.old) (D.told desk.new)) }
 {
-    let seeded = read_seeded(alloc, arguments.setup, arguments.secret, desk)?;
+    let seeded = read_seeded(alloc, setup, secret, desk)?;
     match judge_seeds(&seeded.seeds) {
         Ok(()) => Ok(seeded),
         Err(stop) => Err(stop),

@@ -1,4 +1,5 @@
-//! Runs of `feed`, `capture`, `watch` and `follow`: what posts send, at which readings of the clock. Frames were made by another program.
+//! Runs of `feed`, `capture`, `watch` and `follow`: what posts send, at which readings of the clock. Frames were made by another program;
+//! those of lists of streams, with the counts and the lines of STATUS, by `model/fed.py`.
 
 /// What each of two posts sends, at which readings of the clock: at the opening, until the next interval has begun, at each item of the
 /// link, and at each rest behind it. Interval 0 begins at 1000000, and each is 100000 long. The last interval ends at 1900000, and the
@@ -155,6 +156,29 @@ clock 0 1250000 1260000 1270000 1280000 1290000 1300000 1310000 1320000 1330000 
 told 0 messages 1\ndisclosures 5\ntoolong 0\nearly 0\nover 0\nbackward 0\nfull 0\nunread 0\n
 sent one DATA_3_0_A KEYS_0_2 KEYS_0_3 KEYS_0_4_AND_1_1 KEYS_0_5_AND_1_2 KEYS_0_6_AND_1_3
 silent two
+* two streams, with a line each second $ feed setup,next secret,next-seed in one,two status 1
+# There is no handover behind interval 4. A message comes between the streams, and one behind both.
+link in 'hi . . 'yo . 'x 'n . . 'o 'z
+clock 0 1050000 1100000 1150000 1160000 1250000 1450000 1550000 1950000 2050000 2150000 2250000 2350000 2400000 2450000 2500000 2600000
+told 0 messages 4\ndisclosures 9\nhandovers 3\ntoolong 0\nearly 1\nover 1\nbackward 0\nfull 0\nunread 0\n
+sent one,two LIST_A7_1_0_TO_A8 LIST_A7_1_1_HI LIST_A7_2_0_TO_A8 LIST_A7_4_0_TO_A8 LIST_A7_4_1_YO KEYS_0_3 KEYS_0_7_AND_1_4 LIST_A8_1_0_N KEYS_0_8_AND_1_5 KEYS_0_8_AND_1_6 KEYS_0_8_AND_1_7 LIST_A8_KEYS_0_1 LIST_A8_4_0_O KEYS_0_8_AND_1_8 LIST_A8_KEYS_0_3 LIST_A8_KEYS_0_4
+holds status 'time=2050000 messages=3 disclosures=3 handovers=3 toolong=0 early=1 over=0 backward=0 full=0 unread=0 held=0 unsent=0 left=4+0a+'end=2500000 messages=4 disclosures=9 handovers=3 toolong=0 early=1 over=1 backward=0 full=0 unread=0 held=0 unsent=0 left=0+0a
+* three streams, of which the third begins where the second ends $ feed setup,next,third secret,next-seed,third-seed in one,two
+link in . 'a 'n 'm 'm 'w
+clock 0 1300000 1400000 1400000 1899999 2000000 2200000 2399999 2400000 2500000 2600000
+told 0 messages 5\ndisclosures 6\nhandovers 2\ntoolong 0\nearly 0\nover 0\nbackward 0\nfull 0\nunread 0\n
+sent one,two LIST_A7_4_0_TO_A8 LIST_A7_8_0_A LIST_A8_1_0_TO_A9 LIST_A8_1_1_N KEYS_0_8_AND_1_5 LIST_A8_3_0_M KEYS_0_8_AND_1_7 LIST_A8_4_0_M KEYS_0_8_AND_1_8 LIST_A9_1_0_W LIST_A8_KEYS_0_3 LIST_A8_KEYS_0_4 LIST_A9_KEYS_0_1
+* the first stream is over at the opening $ feed quick,setup quick-seed,secret in one,two
+# What is sent is as of `setup` alone.
+link in 'hi . . . . . 'yo
+clock 0 1075001 1080000 1099999 1100000 1150000 1190000 1250000 1350000 1360000 1450000 1470000 1480000 1500000 1600000 1700000 1900000 2400000
+told 0 messages 2\ndisclosures 6\nhandovers 0\ntoolong 0\nearly 0\nover 0\nbackward 0\nfull 0\nunread 0\n
+sent one,two DATA_1_0_HI KEYS_0_1 KEYS_0_2 DATA_4_0_YO KEYS_0_3 KEYS_0_4_AND_1_1 KEYS_0_5_AND_1_2 KEYS_0_7_AND_1_4
+* an opening a microsecond before that $ feed quick,setup quick-seed,secret in one,two
+link in 'hi . . . . . 'yo
+clock 0 1075000 1076000 1150000 1190000 1250000 1350000 1360000 1450000 1470000 1480000 1500000 1600000 1700000 1900000 2400000
+told 0 messages 2\ndisclosures 7\nhandovers 0\ntoolong 0\nearly 0\nover 0\nbackward 0\nfull 0\nunread 0\n
+sent one,two DATA_1_0_HI LIST_A6_KEYS_0_8 KEYS_0_1 KEYS_0_2 DATA_4_0_YO KEYS_0_3 KEYS_0_4_AND_1_1 KEYS_0_5_AND_1_2 KEYS_0_7_AND_1_4
 ";
 
 /// Runs that feed nothing.
@@ -204,6 +228,35 @@ silent one,two
 set unopened 6
 told 7 open fault\n
 silent one,two
+* all streams are over at the opening $ feed quick,setup quick-seed,secret in one,two
+link in 'x .
+clock 0 8800001 8900000 8900000 9000000
+told 2 refused setup 0 Over\n
+silent one,two
+* the second setup is refused, before LINK and the second of SECRETS $ feed setup,empty secret,none none one,two
+told 2 refused setup 1 BadLine\n
+silent one,two
+* a stream begins before the end of the one before $ feed quick,next,setup quick-seed,next-seed,secret none one,two
+told 2 refused setups 3 Overlap\n
+silent one,two
+* a stream has the number of an earlier one $ feed setup,next,last-year secret,next-seed,wrong-seeds none one,two
+told 2 refused setups 3 UsedStream\n
+silent one,two
+* a stream ends with no interval to hand over in $ feed slow,next slow-seed,next-seed none one,two
+# A stream that begins a microsecond later would have one.
+told 2 refused setups 2 NoWindow\n
+silent one,two
+* a stream has a seed of an earlier one $ feed setup,next secret,one-seed none one,two
+told 3 refused secrets 2 EqualSeeds\n
+silent one,two
+* fewer seeds than setups $ feed setup,next secret in one,two
+told 1 usage: capture LINK CAPTURE\nusage: feed SETUPS SECRETS LINK POSTS\nusage: feed SETUPS SECRETS LINK POSTS STATUS EVERY\nusage: watch SETUP LAG CAPACITY LINKS SINKS STATUS EVERY\nusage: watch-relay CAPACITY LINK POSTS STATUS EVERY\nusage: follow SETUP LAG CAPACITY LINKS SINKS STATUS EVERY\n
+* 17 setups $ feed s1,s2,s3,s4,s5,s6,s7,s8,s9,s10,s11,s12,s13,s14,s15,s16,s17 ts1,ts2,ts3,ts4,ts5,ts6,ts7,ts8,ts9,ts10,ts11,ts12,ts13,ts14,ts15,ts16,ts17 in one,two
+told 1 usage: capture LINK CAPTURE\nusage: feed SETUPS SECRETS LINK POSTS\nusage: feed SETUPS SECRETS LINK POSTS STATUS EVERY\nusage: watch SETUP LAG CAPACITY LINKS SINKS STATUS EVERY\nusage: watch-relay CAPACITY LINK POSTS STATUS EVERY\nusage: follow SETUP LAG CAPACITY LINKS SINKS STATUS EVERY\n
+* a setup twice $ feed setup,setup secret,next-seed in one,two
+told 1 usage: capture LINK CAPTURE\nusage: feed SETUPS SECRETS LINK POSTS\nusage: feed SETUPS SECRETS LINK POSTS STATUS EVERY\nusage: watch SETUP LAG CAPACITY LINKS SINKS STATUS EVERY\nusage: watch-relay CAPACITY LINK POSTS STATUS EVERY\nusage: follow SETUP LAG CAPACITY LINKS SINKS STATUS EVERY\n
+* STATUS is the second of SECRETS $ feed setup,next secret,next-seed in one,two next-seed 1
+told 1 usage: capture LINK CAPTURE\nusage: feed SETUPS SECRETS LINK POSTS\nusage: feed SETUPS SECRETS LINK POSTS STATUS EVERY\nusage: watch SETUP LAG CAPACITY LINKS SINKS STATUS EVERY\nusage: watch-relay CAPACITY LINK POSTS STATUS EVERY\nusage: follow SETUP LAG CAPACITY LINKS SINKS STATUS EVERY\n
 ";
 
 /// A quiet stands before each datagram. The opening of LINK is 1, and that of CAPTURE 2.
@@ -253,7 +306,7 @@ told 0 epochs 1\narrivals 2\nmalformed 0\nforeign 0\nmisfit 0\nfuture 0\nbadkey 
 holds out 000000000000000000000000000000000100000000026869
 holds status 'end=1700000 arrivals=2 malformed=0 foreign=0 misfit=0 future=0 badkey=0 late=0 repeat=0 full=0 kept=2 keys=0 given=1 chain0=1 chain1=0 chain2=0 chain3=0 chain4=0 chain5=0 chain6=0 chain7=0 held=0 failedsinks=0 epoch=0 open=1 early=0 unqueued=0 dropped=0+0a
 * follow: a capacity above 4,096 $ follow setup 30000 4097 both out status 3600
-told 1 usage: capture LINK CAPTURE\nusage: feed SETUP SECRET LINK POSTS\nusage: feed SETUP SECRET LINK POSTS STATUS EVERY\nusage: watch SETUP LAG CAPACITY LINKS SINKS STATUS EVERY\nusage: watch-relay CAPACITY LINK POSTS STATUS EVERY\nusage: follow SETUP LAG CAPACITY LINKS SINKS STATUS EVERY\n
+told 1 usage: capture LINK CAPTURE\nusage: feed SETUPS SECRETS LINK POSTS\nusage: feed SETUPS SECRETS LINK POSTS STATUS EVERY\nusage: watch SETUP LAG CAPACITY LINKS SINKS STATUS EVERY\nusage: watch-relay CAPACITY LINK POSTS STATUS EVERY\nusage: follow SETUP LAG CAPACITY LINKS SINKS STATUS EVERY\n
 * follow: two equal commitments $ follow equal-commitments 30000 16 both out status 3600
 told 2 refused setup 8 EqualCommitments\n
 ";

@@ -39,6 +39,41 @@ const TEXTS: &[(&str, &str)] = &[
         "equal-of-version-2",
         "tesla 2\nstream 00000000000000a7\nstart 1000000\ninterval 100000\nlast 8\ntag 10\nchain 2 0 9ce5072017e83d06da080924aa2251a73ea445e5986eb68ca2d8fb6a3bf70ced\nchain 5 8 9ce5072017e83d06da080924aa2251a73ea445e5986eb68ca2d8fb6a3bf70ced\n",
     ),
+    // Streams of lists: that of `setup` ends at 1,900,000, and `next` begins at 2,000,000 and ends where `third` begins, at 2,400,000.
+    (
+        "next",
+        "tesla 1\nstream 00000000000000a8\nstart 1900000\ninterval 100000\nlast 4\nchain 2 0 1d4d8c70f79764f6456f374160a4ba2a7c2af84cdf0eeed637ca1a7a6aa4f5ab\n",
+    ),
+    (
+        "next-seed",
+        "tesla-seeds 1\nseed 4444444444444444444444444444444444444444444444444444444444444444\n",
+    ),
+    (
+        "third",
+        "tesla 2\nstream 00000000000000a9\nstart 2300000\ninterval 100000\nlast 3\ntag 10\nchain 1 0 65f9f650e7303da69052a8c79ee2601aeb13aa3b2ec70ef6e6681b716e4fe053\n",
+    ),
+    (
+        "third-seed",
+        "tesla-seeds 1\nseed 5555555555555555555555555555555555555555555555555555555555555555\n",
+    ),
+    // Its last key is due since more than 64 intervals behind 1,075,000.
+    (
+        "quick",
+        "tesla 1\nstream 00000000000000a6\nstart 1000000\ninterval 1000\nlast 8\nchain 2 0 8bc3edeb4f7b21e10f1762db2c7b44c975c03377b079c49103bc6fca4ecb81e4\n",
+    ),
+    (
+        "quick-seed",
+        "tesla-seeds 1\nseed 6666666666666666666666666666666666666666666666666666666666666666\n",
+    ),
+    // The key of its first interval is due at 2,000,000.
+    (
+        "slow",
+        "tesla 1\nstream 00000000000000aa\nstart 1000000\ninterval 100000\nlast 4\nchain 9 0 3b170771054e0d3c50fe5bdb55a5ebbee67c9f0c6ec2dde804c9e1ee0a76bfa6\n",
+    ),
+    (
+        "slow-seed",
+        "tesla-seeds 1\nseed 7777777777777777777777777777777777777777777777777777777777777777\n",
+    ),
     ("secret", SEEDS),
     (
         "one-seed",

@@ -1,6 +1,8 @@
-use Rattle.std.proofs.Common.{inr, false, List, None, map, refl}
-use Rattle.tesla_feed.specs.Notes.{Note}
+use Rattle.std.proofs.Common.{◌∙◌, inr, ℕ, nat_lt, false, List, None, ap, map, refl}
+use Rattle.tesla_feeds.specs.Notes.{Note}
+use Rattle.tesla_feeds.specs.Opening.{streams_fed}
 use Rattle.tesla_relay.specs.Posts.{PostSeen}
+use Rattle.tesla_run_feed.specs.Lines.{outcome_with}
 use Rattle.tesla_run_feed.specs.Steps.{WritesStatus}
 use Rattle.tesla_run_feed.proofs.Noted.{feeds_as}
 use Rattle.tesla_run_feed.proofs.counted.feed_open.Goals as goal
@@ -9,14 +11,15 @@ pub returns-in-None-clause-fed : goal.returns-in-None-clause-fed
 returns-in-None-clause-fed g c =
     let port = g.D.Port.Post in let told = g.D.Environment.told in
     let seen : g.row.D-Port.Denot → PostSeen = λ post. record { name = port.name post; sent = port.sent post; faults = port.faults post } in
-    let feed = c.args.ready.opened in
+    let feed = c.args.ready.feed.opened in
+    let streams = streams_fed feed.feeders in
     let end = c.feed_ready.result.0 in
     let was : List Note → Type 0 = λ all. Unit {0} in
-    let is : List Note → Type 0 = λ all. WritesStatus None feed.sender.stream.setup.times feed.opening end.counts (told c.args.desk.now) (told c.args.desk.now) false all in
+    let is : List Note → Type 0 = λ all. WritesStatus None c.args.ready.schedules.items feed.opening end.counts (told c.args.desk.now) (told c.args.desk.now) false all in
     rw c.in-None.is (inr (record {
       end = end;
       status_failed = false;
-      fed = feeds_as g.D.Pause.Gate.over feed.sender.stream feed.opening end (g.D.Wire.Link.left c.args.link.now) (g.D.Wire.Link.left c.feed_ready.new.link) (g.D.Time.Clock.told c.args.ready.clock) (map seen c.args.posts.now.items) (map seen c.feed_ready.new.posts.items) was is (λ all told_all. (refl, refl)) c.feed_ready.ensures.feeds;
+      fed = feeds_as g.D.Pause.Gate.over streams feed.opening end (g.D.Wire.Link.left c.args.link.now) (g.D.Wire.Link.left c.feed_ready.new.link) (g.D.Time.Clock.told c.args.ready.feed.clock) (map seen c.args.posts.now.items) (map seen c.feed_ready.new.posts.items) was is (λ all told_all. (refl, refl)) c.feed_ready.ensures.feeds;
       read = c.feed_ready.ensures.cause;
-      outcome_is = c.lines_after-in-None.ensures;
+      outcome_is = c.lines_after-in-None.ensures ∙ ap (λ (n : ℕ). outcome_with (nat_lt 1 n) end false) (c.len-several.ensures ∙ c.args.ready.schedules.ok.0);
     }))

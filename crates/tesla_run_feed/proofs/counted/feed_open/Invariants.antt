@@ -7,8 +7,8 @@ ghosts-feed_ready g a = record { name = a.blank.name; parts = a.blank.parts }
 abbrev pub ghosts-feed_counted : goal.ghosts-feed_counted
 ghosts-feed_counted g a = record {
   telling = record {
-    schedule = a.ready.opened.sender.stream.setup.times;
-    opening = a.ready.opened.opening;
+    schedules = a.ready.schedules.items;
+    opening = a.ready.feed.opened.opening;
     every = a.status.now.every * 1000000;
     name = a.status.now.output.now;
   };

@@ -6,13 +6,13 @@ use Rattle.tesla_run_feed.proofs.Spelled.{pair_in, paired, pairs_same, with_stat
 use Rattle.tesla_run_feed.proofs.form.read_words.Goals as goal
 
 abbrev Read : Type 0
-Read = List ℕ × (List ℕ × (List ℕ × (List (List ℕ) × LastWords)))
+Read = List (List ℕ) × (List (List ℕ) × (List ℕ × (List (List ℕ) × LastWords)))
 
 abbrev made : Read → FeedArguments
-made w = record { setup = w.0; secret = w.1.0; link = w.1.1.0; posts = w.1.1.1.0; status = option_map pair_of w.1.1.1.1.pair }
+made w = record { setups = w.0; secrets = w.1.0; link = w.1.1.0; posts = w.1.1.1.0; status = option_map pair_of w.1.1.1.1.pair }
 
 abbrev read_of : FeedArguments → Read
-read_of it = (it.setup, (it.secret, (it.link, (it.posts, record { pair = option_map pair_in it.status }))))
+read_of it = (it.setups, (it.secrets, (it.link, (it.posts, record { pair = option_map pair_in it.status }))))
 
 pub returns-in-Some-clause-only : goal.returns-in-Some-clause-only
 returns-in-Some-clause-only c it is =

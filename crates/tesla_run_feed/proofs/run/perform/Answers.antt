@@ -1,8 +1,10 @@
+use Rattle.std.proofs.Common.{refl}
 use Rattle.std.proofs.lemmas.Result.{err_from_is_err_and}
+use Rattle.tesla_feeds.specs.Fed.{lasting}
 use Rattle.tesla_run_feed.specs.Arguments.{arguments_of}
-use Rattle.tesla_run_feed.proofs.Due.{may_write_counts}
+use Rattle.tesla_run_feed.specs.Listing.{streams_in}
+use Rattle.tesla_run_feed.proofs.Due.{listed_in, may_write_counts}
 use Rattle.tesla_run_feed.proofs.Performed.{performs_fed, performs_unfed}
-use Rattle.tesla_run_send.specs.Sender.{stream_in}
 use Rattle.tesla_run_feed.proofs.run.perform.Goals as goal
 
 pub feed_files-requires-clause-asks : goal.feed_files-requires-clause-asks
@@ -12,19 +14,33 @@ pub feed_files-requires-clause-any_link : goal.feed_files-requires-clause-any_li
 feed_files-requires-clause-any_link g c = λ lifetimes within. c.requires.any_link
 
 pub feed_files-requires-clause-due : goal.feed_files-requires-clause-due
-feed_files-requires-clause-due g c = λ lifetimes within right post datagram named due. c.requires.due post datagram (record { named = named; stream = stream_in c.in_ok-seeded.seeded; is = record { found = c.in_ok-seeded.ensures.read.reads.is; right = right }; sound = c.in_ok-seeded.ensures.read.sound; due = due })
+feed_files-requires-clause-due g c = λ lifetimes within right from given post datagram named due.
+    let streams = streams_in c.in_ok-list.list in
+    c.requires.due post datagram (record {
+      named = named;
+      streams = streams;
+      going = lasting from streams;
+      left = record {
+        listed = listed_in (arguments_of c.args.arguments.now) streams (g.D.Environment.told c.args.desk.now) _ c.in_ok-list.ensures.read right;
+        from = from;
+        given = given;
+        going_is = refl;
+      };
+      due = due;
+    })
 
 pub feed_files-requires-clause-counted : goal.feed_files-requires-clause-counted
 feed_files-requires-clause-counted g c = λ lifetimes within right.
     let out = g.D.Pieces.Output in let clock = g.D.Time.Clock in
-    may_write_counts out.name out.written out.may_write clock.gave clock.read_for (arguments_of c.args.arguments.now) (g.D.Environment.told c.args.desk.now) (stream_in c.in_ok-seeded.seeded)
-    (record { found = c.in_ok-seeded.ensures.read.reads.is; right = right }) c.in_ok-seeded.ensures.read.sound c.requires.counted
+    let streams = streams_in c.in_ok-list.list in
+    may_write_counts out.name out.written out.may_write clock.gave clock.read_for (arguments_of c.args.arguments.now) (g.D.Environment.told c.args.desk.now) streams
+    (listed_in (arguments_of c.args.arguments.now) streams (g.D.Environment.told c.args.desk.now) _ c.in_ok-list.ensures.read right) c.requires.counted
 
-pub returns-in_err-seeded : goal.returns-in_err-seeded
-returns-in_err-seeded g c =
+pub returns-in_err-list : goal.returns-in_err-list
+returns-in_err-list g c =
     let p = err_from_is_err_and c.from_residual.result c.from_residual.ensures.1 in
-    rw (p.1, p.2) (performs_unfed g.D.Pause.Gate.over (arguments_of c.args.arguments.now) c.requires.form.0 (g.D.Environment.told c.args.desk.now) _ _ c.requires.form.1 c.in_err-seeded.ensures.refused)
+    rw (p.1, p.2) (performs_unfed g.D.Pause.Gate.over (arguments_of c.args.arguments.now) c.requires.form.0 (g.D.Environment.told c.args.desk.now) _ _ c.requires.form.1 c.in_err-list.ensures.refused)
 
 pub returns : goal.returns
 returns g c =
-    performs_fed g.D.Pause.Gate.over (arguments_of c.args.arguments.now) c.requires.form.0 (stream_in c.in_ok-seeded.seeded) (g.D.Environment.told c.args.desk.now) _ _ _ c.requires.form.1 c.in_ok-seeded.ensures.read c.feed_files.ensures
+    performs_fed g.D.Pause.Gate.over (arguments_of c.args.arguments.now) c.requires.form.0 (streams_in c.in_ok-list.list) (g.D.Environment.told c.args.desk.now) _ _ _ c.requires.form.1 c.in_ok-list.ensures.read c.feed_files.ensures
