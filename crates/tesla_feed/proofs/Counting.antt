@@ -6,7 +6,7 @@ use Rattle.tesla_sender.specs.Made.{Message, Disclose}
 use Rattle.tesla_sender.specs.declared.refusal.SendRefusal.{SendRefusal}
 use Rattle.tesla_sender.specs.declared.refusal.SendRefusal.TheVariants as unsent
 use Rattle.tesla_relay.specs.Counts.{counted}
-use Rattle.tesla_feed.specs.Fed.{Feeding, counts_of, is_backward, is_disclosure, is_early, is_full, is_message, is_over, is_too_long, with_call, with_refusal, with_unread}
+use Rattle.tesla_feed.specs.Fed.{Feeding, counts_of, is_backward, is_disclosure, is_early, is_full, is_message, is_over, is_too_long, with_call, with_refusal}
 use Rattle.tesla_feed.specs.Steps.{after_refusal, one_more}
 use Rattle.tesla_feed.specs.declared.counts.FeedCounts.{FeedCounts}
 
@@ -71,7 +71,3 @@ pub disclosure_counts : (made : Feeding) (reading : ℕ) → counts_of (with_cal
 disclosure_counts made reading =
     let call = Disclose reading in
     counts_are (counts_of (with_call made call)) (record (counts_of made) { disclosures = one_more (counts_of made).disclosures }) (counts_none is_message made.log call refl) (counts_one is_disclosure made.log call refl) refl refl refl refl refl refl
-
--- a message more that came while the clock couldn't be read
-pub unread_counts : (made : Feeding) → counts_of (with_unread made) ≡ record (counts_of made) { unread = one_more (counts_of made).unread }
-unread_counts made = counts_are (counts_of (with_unread made)) (record (counts_of made) { unread = one_more (counts_of made).unread }) refl refl refl refl refl refl refl (counted_more made.unread)

@@ -1,7 +1,7 @@
 -- What a feeder keeps of what was made, after each call.
 use Rattle.std.proofs.Common.{◌≡◌, ◌∙◌, ℕ, ◌+◌, ◌≤◌, Bool, true, false, cond, List, [], ◌∷◌, ◌++◌, length, map, take, refl, sym, ap, subst, inl, inr, arith}
-use Rattle.std.specs.Prelude.{Result, Ok, Err, Option, Some, None, max, nat_le, nat_lt, eqb, not, ◌&&◌, ◌||◌, if◌then◌else◌, option_to_list}
-use Rattle.std.specs.List.{list_all, list_any}
+use Rattle.std.specs.Prelude.{Result, Ok, Err, Some, None, max, nat_le, nat_lt, eqb, not, ◌&&◌, ◌||◌, if◌then◌else◌, option_to_list}
+use Rattle.std.specs.List.{list_any}
 use Rattle.std.proofs.lemmas.Bool.{cases_lt, le-ltb, leb-true, ltb-true, lt-ltb, ne_eqb, eq-eqb}
 use Rattle.std.proofs.lemmas.List.Sums.{fold-append, sum_by-append}
 use Rattle.tesla_base.specs.declared.names.Name.{Name}
@@ -14,12 +14,11 @@ use Rattle.tesla_sender.specs.declared.refusal.DiscloseRefusal.TheVariants as un
 use Rattle.tesla_sender.specs.declared.refusal.SendRefusal.{SendRefusal}
 use Rattle.tesla_sender.specs.declared.refusal.SendRefusal.TheVariants as unsent
 use Rattle.tesla_sender.proofs.Logs.{named, spells_answered}
-use Rattle.tesla_desk.specs.declared.link.Letter.TheVariants as letters
-use Rattle.tesla_feed.specs.Fed.{counts_of, Received, Feeding, after_event, after_judged, after_none, datagram_of, has_begun, is_all_disclosed, is_due, is_unread, last_message, latest_from, message_interval, name_from, tells_more, disclosed_by, with_call, with_refusal, with_unread}
-use Rattle.tesla_feed.specs.Steps.{Makes, Says, StandsFor, after_item, after_refusal, after_unread, is_due_after, is_disclosed_after, one_more}
+use Rattle.tesla_feed.specs.Fed.{counts_of, Feeding, after_none, datagram_of, has_begun, is_due, is_unread, last_message, latest_from, message_interval, name_from, tells_more, disclosed_by, with_call, with_refusal}
+use Rattle.tesla_feed.specs.Steps.{Makes, Says, StandsFor, after_refusal, is_due_after, one_more}
 use Rattle.tesla_feed.specs.declared.counts.FeedCounts.{FeedCounts}
 use Rattle.tesla_feed.specs.declared.feeder.Feeder.{Feeder}
-use Rattle.tesla_feed.proofs.Counting.{disclosure_counts, message_counts, refused_counts, unread_counts}
+use Rattle.tesla_feed.proofs.Counting.{disclosure_counts, message_counts, refused_counts}
 
 -- ---- logs with one call more
 
@@ -184,10 +183,6 @@ any_same : {A : Type 0} (p q : A → Bool) (xs : List A) → ((x : A) → p x �
 any_same p q [] same = refl
 any_same p q (x ∷ xs) same = ap (λ b. b || list_any p xs) (same x) ∙ ap (λ b. q x || b) (any_same p q xs same)
 
-all_same : {A : Type 0} (p q : A → Bool) (xs : List A) → ((x : A) → p x ≡ q x) → list_all p xs ≡ list_all q xs
-all_same p q [] same = refl
-all_same p q (x ∷ xs) same = ap (λ b. b && list_all p xs) (same x) ∙ ap (λ b. q x && b) (all_same p q xs same)
-
 -- whether one is due, told whether the clock couldn't be read
 abbrev due_where : Stream → ℕ → List Call → ℕ → Bool → Bool
 due_where stream first log reading unread =
@@ -205,13 +200,6 @@ due_is stream first feeder made reading read stands =
     let interval = interval_at times reading in
     let newer : tells_more stream made.log interval ≡ tells_newer feeder.latest interval (chains_of stream) = any_same (λ chain. nat_lt (disclosed_by times made.log chain) (index_disclosed interval chain)) (λ chain. nat_lt (index_disclosed feeder.latest chain) (index_disclosed interval chain)) (chains_of stream) (λ chain. ap (λ n. nat_lt n (index_disclosed interval chain)) (stands.keys_disclosed chain)) in
     ap (due_where stream first made.log reading) read ∙ ap (λ (l : ℕ). nat_le first interval && (nat_le l interval && tells_more stream made.log interval)) (sym stands.latest) ∙ ap (λ (b : Bool). nat_le first interval && (nat_le feeder.latest interval && b)) newer
-
--- whether all keys were disclosed is judged by what a feeder keeps
-pub disclosed_is : (stream : Stream) (first : ℕ) (feeder : Feeder) (made : Feeding) → StandsFor stream first feeder made → is_all_disclosed stream made.log ≡ is_disclosed_after stream feeder.message feeder.latest
-disclosed_is stream first feeder made stands =
-    let times = stream.setup.times in
-    ap (λ (m : ℕ). list_all (λ chain. nat_le m (disclosed_by times made.log chain)) (chains_of stream)) (sym stands.message)
-    ∙ all_same (λ chain. nat_le feeder.message (disclosed_by times made.log chain)) (λ chain. nat_le feeder.message (index_disclosed feeder.latest chain)) (chains_of stream) (λ chain. ap (nat_le feeder.message) (stands.keys_disclosed chain))
 
 -- where one is due, some chain has a key to disclose
 newer_one : (most interval : ℕ) (chain : Chain) → nat_lt most (index_disclosed interval chain) ≡ true → nat_lt chain.row.delay interval ≡ true
@@ -280,10 +268,10 @@ due_accepted stream before reading later some =
 
 -- ---- what each call makes
 
--- what is ready, read and counted changes nothing else
-kept_stands : (stream : Stream) (first : ℕ) (feeder : Feeder) (made : Feeding) (left : ℕ) (frame : List ℕ) (reading : ℕ) (counts : FeedCounts) (refused : List SendRefusal) (unread : ℕ) → StandsFor stream first feeder made
-    → counts ≡ counts_of (record made { refused = refused; unread = unread }) → StandsFor stream first (record feeder { sender = record feeder.sender { left = left }; frame = frame; reading = reading; counts = counts }) (record made { refused = refused; unread = unread })
-kept_stands stream first feeder made left frame reading counts refused unread stands counted = record {
+-- what is ready and counted changes nothing else
+kept_stands : (stream : Stream) (first : ℕ) (feeder : Feeder) (made : Feeding) (left : ℕ) (frame : List ℕ) (counts : FeedCounts) (refused : List SendRefusal) → StandsFor stream first feeder made
+    → counts ≡ counts_of (record made { refused = refused }) → StandsFor stream first (record feeder { sender = record feeder.sender { left = left }; frame = frame; counts = counts }) (record made { refused = refused })
+kept_stands stream first feeder made left frame counts refused stands counted = record {
   stream_is = stands.stream_is;
   first_is = stands.first_is;
   from = stands.from;
@@ -295,30 +283,26 @@ kept_stands stream first feeder made left frame reading counts refused unread st
   counts = counted;
 }
 
--- a reading that was noted changes nothing
-pub noted_stands : (stream : Stream) (first : ℕ) (feeder : Feeder) (made : Feeding) (reading : ℕ) → StandsFor stream first feeder made → StandsFor stream first (record feeder { reading = reading }) made
-noted_stands stream first feeder made reading stands = kept_stands stream first feeder made feeder.sender.left feeder.frame reading feeder.counts made.refused made.unread stands stands.counts
-
--- nor do the keys that are made ahead
+-- the keys that are made ahead change nothing
 pub next_stands : (stream : Stream) (first : ℕ) (feeder : Feeder) (sender : State) (made : Feeding) → sender ≡ record { stream = feeder.sender.stream; latest = feeder.sender.latest; used = feeder.sender.used; left = sender.left; reserved = feeder.sender.reserved } → StandsFor stream first feeder made → StandsFor stream first (record feeder { sender = sender }) made
 next_stands stream first feeder sender made same stands =
     let P : State → Type 0 = λ s. StandsFor stream first (record feeder { sender = s }) made in
-    subst P (sym same) (kept_stands stream first feeder made sender.left feeder.frame feeder.reading feeder.counts made.refused made.unread stands stands.counts)
+    subst P (sym same) (kept_stands stream first feeder made sender.left feeder.frame feeder.counts made.refused stands stands.counts)
 
 -- a message that is refused is counted
 pub refused_stands : (stream : Stream) (first : ℕ) (feeder : Feeder) (made : Feeding) (refusal : SendRefusal) (frame : List ℕ) (counts : FeedCounts) → counts ≡ after_refusal feeder.counts refusal → StandsFor stream first feeder made → StandsFor stream first (record feeder { frame = frame; counts = counts }) (with_refusal made refusal)
 refused_stands stream first feeder made refusal frame counts after stands =
-    kept_stands stream first feeder made feeder.sender.left frame feeder.reading counts (with_refusal made refusal).refused made.unread stands (after ∙ ap (λ (c : FeedCounts). after_refusal c refusal) stands.counts ∙ sym (refused_counts made refusal))
+    kept_stands stream first feeder made feeder.sender.left frame counts (with_refusal made refusal).refused stands (after ∙ ap (λ (c : FeedCounts). after_refusal c refusal) stands.counts ∙ sym (refused_counts made refusal))
 
 abbrev disclosed_where : Feeding → ℕ → Bool → Feeding
 disclosed_where made reading due = if due then with_call made (Disclose reading) else made
 
 -- no disclosure was due
-pub makes_none : (stream : Stream) (first : ℕ) (feeder : Feeder) (made : Feeding) (reading : ℕ) → is_unread reading ≡ false → is_due_after stream first feeder.latest (interval_at stream.setup.times reading) ≡ false → StandsFor stream first feeder made → Makes stream first made (after_none stream first made reading) (record feeder { reading = reading }) None
+pub makes_none : (stream : Stream) (first : ℕ) (feeder : Feeder) (made : Feeding) (reading : ℕ) → is_unread reading ≡ false → is_due_after stream first feeder.latest (interval_at stream.setup.times reading) ≡ false → StandsFor stream first feeder made → Makes stream first made (after_none stream first made reading) feeder None
 makes_none stream first feeder made reading read due stands =
     let none : after_none stream first made reading ≡ made = ap (disclosed_where made reading) (due_is stream first feeder made reading read stands ∙ due) in
-    let P : Feeding → Type 0 = λ after. Makes stream first made after (record feeder { reading = reading }) None in
-    subst P (sym none) (record { stands = noted_stands stream first feeder made reading stands; adds = refl })
+    let P : Feeding → Type 0 = λ after. Makes stream first made after feeder None in
+    subst P (sym none) (record { stands = stands; adds = refl })
 
 -- a disclosure that is due isn't refused
 pub never_refused : (stream : Stream) (first : ℕ) (feeder : Feeder) (made : Feeding) (reading : ℕ) (refusal : DiscloseRefusal) (before now : List ℕ) → StandsFor stream first feeder made → is_due_after stream first feeder.latest (interval_at stream.setup.times reading) ≡ true
@@ -372,11 +356,6 @@ makes_disclosure stream first feeder now made reading size before read due stand
       adds = (call, refl, datagram);
     })
 
--- a message that came while the clock was read is judged by its name
-pub read_judged : (stream : Stream) (first : ℕ) (made : Feeding) (reading : ℕ) (payload : List ℕ) → is_unread reading ≡ false
-    → after_event stream first made (Received reading (letters.Datagram payload)) ≡ after_judged stream first made reading payload (name_from stream.setup.times first made.log reading payload)
-read_judged stream first made reading payload read = ap (λ (unread : Bool). if unread then with_unread made else after_judged stream first made reading payload (name_from stream.setup.times first made.log reading payload)) read
-
 -- a message is sent
 pub says_sent : (stream : Stream) (first : ℕ) (feeder now : Feeder) (made : Feeding) (reading : ℕ) (payload : List ℕ) (size : ℕ) (before : List ℕ) → StandsFor stream first feeder made
     → Answers (ok_size size) (returned_message feeder.sender reading payload) before now.frame → now.sender ≡ sent_in feeder.sender (interval_at stream.setup.times reading) now.sender.left
@@ -392,7 +371,7 @@ says_sent stream first feeder now made reading payload size before stands answer
 
 -- a feeder whose sender is this one, with this in its room and these counts
 abbrev pub feeder_with : Feeder → State → List ℕ → FeedCounts → Feeder
-feeder_with feeder sender frame counts = record { sender = sender; frame = frame; first = feeder.first; latest = feeder.latest; message = feeder.message; reading = feeder.reading; counts = counts }
+feeder_with feeder sender frame counts = record { sender = sender; frame = frame; first = feeder.first; latest = feeder.latest; message = feeder.message; counts = counts }
 
 -- a message is refused
 pub says_refused : (feeder : Feeder) (made : Feeding) (reading : ℕ) (payload : List ℕ) (refusal : SendRefusal) (frame : List ℕ) (sender : State) (counts : FeedCounts) → StandsFor feeder.sender.stream feeder.first feeder made
@@ -404,41 +383,3 @@ says_refused feeder made reading payload refusal frame sender counts stands answ
     let found = message_refused stream first feeder made reading payload refusal feeder.frame frame stands answers in
     let P : State → Type 0 = λ s. StandsFor stream first (feeder_with feeder s frame counts) (with_refusal made refusal) in
     (found, subst P (sym same) (refused_stands stream first feeder made refusal frame counts counted stands))
-
--- a message that was sent is all that was made
-pub judged_sent : (stream : Stream) (first : ℕ) (now : Feeder) (made : Feeding) (reading : ℕ) (payload : List ℕ) (size : ℕ) → is_unread reading ≡ false → Says stream first made reading payload now (ok_size size)
-    → Makes stream first made (after_event stream first made (Received reading (letters.Datagram payload))) now (Some size)
-judged_sent stream first now made reading payload size read says =
-    let Q : Feeding → Type 0 = λ a. Makes stream first made a now (Some size) in
-    subst Q (sym (read_judged stream first made reading payload read ∙ ap (after_judged stream first made reading payload) says.1)) (record { stands = says.2; adds = (Message reading payload, refl, says.3) })
-
--- behind one that was refused a disclosure may be due
-pub judged_refused : (stream : Stream) (first : ℕ) (mid now : Feeder) (made : Feeding) (reading : ℕ) (payload : List ℕ) (refusal : SendRefusal) (result : Option ℕ) → is_unread reading ≡ false → Says stream first made reading payload mid (err_size refusal)
-    → ((m : Feeding) → StandsFor mid.sender.stream mid.first mid m → Makes mid.sender.stream mid.first m (after_none mid.sender.stream mid.first m reading) now result)
-    → Makes stream first made (after_event stream first made (Received reading (letters.Datagram payload))) now result
-judged_refused stream first mid now made reading payload refusal result read says discloses =
-    let it = with_refusal made refusal in
-    let P : Stream → Type 0 = λ s. StandsFor s mid.first mid it → Makes s mid.first it (after_none s mid.first it reading) now result in
-    let F : ℕ → Type 0 = λ f. StandsFor stream f mid it → Makes stream f it (after_none stream f it reading) now result in
-    let makes = subst F says.1.first_is (subst P says.1.stream_is (discloses it)) says.1 in
-    let Q : Feeding → Type 0 = λ a. Makes stream first made a now result in
-    subst Q (sym (read_judged stream first made reading payload read ∙ ap (after_judged stream first made reading payload) says.0)) (record { stands = makes.stands; adds = makes.adds })
-
--- what is made while the clock can't be read: a message is counted
-unread_made : (stream : Stream) (first : ℕ) (made : Feeding) (reading : ℕ) (bytes : List ℕ) → is_unread reading ≡ true → after_item stream first made reading (Some bytes) ≡ with_unread made
-unread_made stream first made reading bytes unread = ap (λ (u : Bool). if u then with_unread made else after_judged stream first made reading bytes (name_from stream.setup.times first made.log reading bytes)) unread
-
--- no frame is made while the clock can't be read
-pub makes_unread : (stream : Stream) (first : ℕ) (feeder now : Feeder) (made : Feeding) (reading : ℕ) (payload : Option (List ℕ)) → is_unread reading ≡ true → now ≡ record feeder { counts = after_unread feeder.counts payload } → StandsFor stream first feeder made → Makes stream first made (after_item stream first made reading payload) now None
-makes_unread stream first feeder now made reading None unread same stands =
-    let none : after_none stream first made reading ≡ made = ap (disclosed_where made reading) (never_due stream first made.log reading unread) in
-    let P : Feeder → Feeding → Type 0 = λ f a. Makes stream first made a f None in
-    subst (λ (f : Feeder). P f (after_none stream first made reading)) (sym same) (subst (P feeder) (sym none) (record { stands = stands; adds = refl }))
-makes_unread stream first feeder now made reading (Some bytes) unread same stands =
-    let P : Feeder → Feeding → Type 0 = λ f a. Makes stream first made a f None in
-    let it : Feeder = record feeder { counts = after_unread feeder.counts (Some bytes) } in
-    subst (λ (f : Feeder). P f (after_item stream first made reading (Some bytes))) (sym same)
-    (subst (P it) (sym (unread_made stream first made reading bytes unread)) (record {
-      stands = kept_stands stream first feeder made feeder.sender.left feeder.frame feeder.reading it.counts made.refused (with_unread made).unread stands (ap (λ (c : FeedCounts). let it : FeedCounts = record c { unread = one_more c.unread } in it) stands.counts ∙ sym (unread_counts made));
-      adds = refl;
-    }))

@@ -1,7 +1,6 @@
 pub mod Counting
 pub mod Kept
 pub mod Given
-pub mod Noted
 pub mod Going
 pub mod Whole
 pub mod Permitted

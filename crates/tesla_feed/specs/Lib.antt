@@ -1,5 +1,4 @@
 pub mod Fed
-pub mod Notes
 pub mod Feed
 pub mod Due
 pub mod Steps

@@ -3,12 +3,11 @@
 ghost use Rattle.std.specs.Prelude.{◌≡◌, ◌+◌, ◌≤◌, [], false, IfOk, IfSome};
 ghost use Rattle.tesla_sender.specs.Made.{interval_at};
 ghost use Rattle.tesla_sender.specs.Stands.{Stands};
-ghost use Rattle.tesla_feed.specs.Fed.{Received, Feeding, after_event, after_none, first_interval, has_begun, is_unread, nothing_fed};
-ghost use Rattle.tesla_feed.specs.Steps.{Makes, Says, StandsFor, after_item, after_unread, bytes_in, is_due_after, is_disclosed_after, noted, until_begin};
+ghost use Rattle.tesla_feed.specs.Fed.{Feeding, after_none, first_interval, is_unread, nothing_fed};
+ghost use Rattle.tesla_feed.specs.Steps.{Makes, Says, StandsFor, is_due_after, is_disclosed_after};
 ghost use Rattle.tesla_desk.specs.declared.link.Letter.TheVariants as letters;
 
 use crate::FeedCounts;
-use crate::readings::is_unread;
 use std::sync::ledger::Ledger;
 use tesla_base::{MOST_DATAGRAM, Steps};
 use tesla_clock::Schedule;
@@ -25,8 +24,6 @@ pub struct Feeder {
     // The intervals of the last call and of the last message, 0 where there is none.
     latest: u64,
     message: u64,
-    // The last reading of the clock that could be had.
-    reading: u64,
     counts: FeedCounts,
 }
 
@@ -45,7 +42,6 @@ impl Feeder {
             first,
             latest: 0,
             message: 0,
-            reading: opening,
             counts: FeedCounts::new(),
         }
     }
@@ -71,37 +67,6 @@ impl Feeder {
         self.sender.interval_at(reading)
     }
 
-    /// Notes a reading of the clock, and tells whether the first interval has begun by it. Where the clock couldn't be
-    /// read it hasn't, and nothing is noted.
-    pub fn has_begun(&mut self, reading: u64) -> bool
-        ensures begun { result ≡ has_begun self.old.sender.stream.setup.times self.old.first reading }
-        ensures same { self.new ≡ record self.old { reading = noted self.old.reading reading } }
-    {
-        if !is_unread(reading) {
-            self.reading = reading;
-            return self.first <= self.sender.interval_at(reading);
-        }
-        false
-    }
-
-    // Makes the frame of a message that came at this reading, or where it is refused that of a disclosure that is due,
-    // and gives its length. `None`: no frame is made.
-    fn message<L: Ledger>(
-        &mut self,
-        reading: u64,
-        payload: &[u8],
-        steps: &mut Steps<L>,
-    ) -> Option<usize>
-        requires read { is_unread reading ≡ false }
-        ensures makes { (made : Feeding) → StandsFor self.old.sender.stream self.old.first self.old made → Makes self.old.sender.stream self.old.first made (after_event self.old.sender.stream self.old.first made (Received reading (letters.Datagram payload.now))) self.new result }
-        ensures room { IfSome result (λ length. length ≤ 2048) }
-    {
-        match self.say(reading, payload, steps) {
-            Ok(length) => Some(length),
-            Err(_) => self.disclose(reading, steps),
-        }
-    }
-
     /// Judges a message that came at this reading, makes its frame where it is sent, and gives the length of that. Else it
     /// is counted as refused, and no frame is made.
     pub fn say<L: Ledger>(
@@ -118,7 +83,6 @@ impl Feeder {
             .message(reading, payload, &mut self.frame, steps)
         {
             Ok(length) => {
-                self.reading = reading;
                 self.latest = self.sender.interval_at(reading);
                 self.message = self.latest;
                 self.counts.messages = self.counts.messages.saturating_add(1);
@@ -138,7 +102,6 @@ impl Feeder {
         ensures makes { (made : Feeding) → StandsFor self.old.sender.stream self.old.first self.old made → Makes self.old.sender.stream self.old.first made (after_none self.old.sender.stream self.old.first made reading) self.new result }
         ensures room { IfSome result (λ length. length ≤ 2048) }
     {
-        self.reading = reading;
         let interval = self.sender.interval_at(reading);
         if !self.is_due(interval) {
             return None;
@@ -150,36 +113,6 @@ impl Feeder {
         self.latest = interval;
         self.counts.disclosures = self.counts.disclosures.saturating_add(1);
         Some(length)
-    }
-
-    /// Does what an event at this reading asks for: a message came, or none did. It gives the length of the frame that
-    /// is made. Where the clock couldn't be read none is, and a message that came is counted.
-    pub fn take<L: Ledger>(
-        &mut self,
-        reading: u64,
-        payload: Option<&[u8]>,
-        steps: &mut Steps<L>,
-    ) -> Option<usize>
-        ensures makes { (made : Feeding) → StandsFor self.old.sender.stream self.old.first self.old made → Makes self.old.sender.stream self.old.first made (after_item self.old.sender.stream self.old.first made reading (bytes_in payload.entry)) self.new result }
-        ensures room { IfSome result (λ length. length ≤ 2048) }
-    {
-        if is_unread(reading) {
-            self.pass_over(payload);
-            return None;
-        }
-        match payload {
-            Some(payload) => self.message(reading, payload, steps),
-            None => self.disclose(reading, steps),
-        }
-    }
-
-    // Counts a message that came while the clock couldn't be read.
-    fn pass_over(&mut self, payload: Option<&[u8]>)
-        ensures { self.new ≡ record self.old { counts = after_unread self.old.counts (bytes_in payload.entry) } }
-    {
-        if payload.is_some() {
-            self.counts.unread = self.counts.unread.saturating_add(1);
-        }
     }
 
     // Whether a disclosure in an interval would tell a newer key.
@@ -211,32 +144,5 @@ impl Feeder {
         ensures { (made : Feeding) → StandsFor self.old.sender.stream self.old.first self.old made → StandsFor self.old.sender.stream self.old.first self.new made }
     {
         self.sender.make_next(steps);
-    }
-
-    /// How many microseconds after the last reading the first interval begins, 0 where it has begun.
-    pub fn until_first(&self) -> u64
-        ensures { result ≡ until_begin self.now.sender.stream.setup.times self.now.first self.now.reading }
-    {
-        self.until(self.first)
-    }
-
-    /// How many microseconds after the last reading the next interval begins, in which the next keys are due.
-    pub fn until_next(&self) -> u64
-        ensures { let times = self.now.sender.stream.setup.times in
-            result ≡ until_begin times (interval_at times self.now.reading + 1) self.now.reading }
-    {
-        self.until(self.sender.interval_at(self.reading).saturating_add(1))
-    }
-
-    // How many microseconds after the last reading an interval begins, 0 where it has begun.
-    fn until(&self, interval: u64) -> u64
-        ensures { result ≡ until_begin self.now.sender.stream.setup.times interval self.now.reading }
-    {
-        let schedule = self.sender.schedule();
-        let after = interval.saturating_mul(u64::from(schedule.length()));
-        schedule
-            .start()
-            .saturating_add(after)
-            .saturating_sub(self.reading)
     }
 }

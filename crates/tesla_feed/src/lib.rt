@@ -1,5 +1,5 @@
-//! The live sender: messages that come over a link are tagged at the reading of a clock, keys are disclosed on time, also
-//! while nothing comes, and each frame is handed to every post (RFC 4082, sections 3.2 to 3.4).
+//! The live sender of one stream: a feeder, which tags the messages that come and discloses keys when they are due (RFC 4082,
+//! sections 3.2 to 3.4), the posts to each of which a frame is handed, and the opening of a feed.
 #![tactic(auto)]
 
 mod counts;
@@ -7,16 +7,14 @@ mod feeder;
 mod feeding;
 mod hearing;
 pub mod laws;
-mod notes;
 mod opening;
 mod posts;
 mod readings;
 
 pub use counts::FeedCounts;
 pub use feeder::Feeder;
-pub use feeding::{FeedEnd, Instruments, MOST_POSTS, feed};
+pub use feeding::{Instruments, MOST_POSTS};
 pub use hearing::Hearing;
-pub use notes::{NoNotes, Notes};
-pub use opening::{OpenFeed, first_reading, has_ended, open_feed};
+pub use opening::{first_reading, has_ended};
 pub use posts::{hand, has_one_failed, have_all_failed};
 pub use readings::is_unread;

@@ -1,9 +1,8 @@
 //! The opening of a feed.
 
-ghost use Rattle.std.specs.Prelude.{◌≡◌, [], IfSome, true};
-ghost use Rattle.tesla_sender.specs.Stands.{Stands};
+ghost use Rattle.std.specs.Prelude.{◌≡◌, true};
 ghost use Rattle.tesla_feed.specs.Fed.{has_ended};
-ghost use Rattle.tesla_feed.specs.Feed.{OpensAt, OpensFeed};
+ghost use Rattle.tesla_feed.specs.Feed.{OpensAt};
 
 use crate::readings::is_unread;
 use std::sync::Wait;
@@ -15,33 +14,6 @@ const BETWEEN_READINGS: u64 = 1_000_000;
 
 /// How many intervals a feed may be opened behind the end of the last one and the delay of a chain.
 const LATEST_OPENING: u64 = 64;
-
-/// A sender that has accepted no call, and the reading of the clock at which its feed was opened, in microseconds.
-#[derive(Drop)]
-pub struct OpenFeed {
-    pub sender: Sender,
-    pub opening: u64,
-}
-
-/// Opens a feed of the sender: the clock is read until it can be, and that reading is the opening. The gate rests between
-/// two readings. `None` where the stream is over by then: the opening lies behind the end of the last interval by more
-/// than each chain's delay and 64 intervals.
-pub fn open_feed<R: Wait, C: Clock, G: Gate>(
-    rt: &R,
-    sender: Sender,
-    clock: &mut C,
-    gate: &mut G,
-) -> Option<OpenFeed>
-    requires { Stands sender [] }
-    ensures opens { OpensFeed sender.stream result (C.told clock.old) (C.told clock.new) }
-    ensures gave { IfSome result (λ feed. C.gave feed.opening ≡ true) }
-{
-    let opening = first_reading(rt, clock, gate);
-    if has_ended(&sender, opening) {
-        return None;
-    }
-    Some(OpenFeed { sender, opening })
-}
 
 /// Reads the clock until it can be read, and gives that reading, in microseconds. The gate rests between two readings.
 pub fn first_reading<R: Wait, C: Clock, G: Gate>(rt: &R, clock: &mut C, gate: &mut G) -> u64
