@@ -1,2 +1,5 @@
 mod Timely
 mod Completing
+mod InStep
+mod Takes
+mod Rolling
