@@ -15,13 +15,15 @@ WRITTEN = ("/usr/bin/tesla ", "/usr/libexec/tesla/")
 # the links between them lead to files.
 GUIDE = ["README.md", "docs/COSTS.md", "docs/FORMATS.md", "docs/LAWS.md", "docs/OPERATING.md", "docs/PROTOCOL.md", "docs/RECEIVER.md",
          "docs/TRUST.md", *sorted(glob.glob("docs/operating/*.md", root_dir=TOP))]
-MANUALS = ["tesla.1", "tesla-capture-to-pcap.1", "tesla-pcap-to-capture.1", "tesla-text-to-script.1", "tesla-readers.3",
-           "tesla-formats.5", "tesla-units.7", "tesla-wireshark.7"]
-SCRIPTS = ["tesla-capture-to-pcap", "tesla-pcap-to-capture", "tesla-text-to-script"]
+MANUALS = ["tesla.1", "tesla-capture-to-pcap.1", "tesla-pcap-to-capture.1", "tesla-text-to-script.1", "tesla-records.1",
+           "tesla-readers.3", "tesla-formats.5", "tesla-units.7", "tesla-wireshark.7"]
+# The scripts that are commands, and where they stand below the top of the repository.
+SCRIPTS = {**dict.fromkeys(("tesla-capture-to-pcap", "tesla-pcap-to-capture", "tesla-text-to-script"), "converters"),
+           "tesla-records": "readers"}
 
 # A source below this folder, where it goes below the prefix, and its rights. In a path that ends with .gz it is compressed.
 FILES = [
-    *((f"../converters/{name}", f"bin/{name}", 0o755) for name in SCRIPTS),
+    *((f"../{folder}/{name}", f"bin/{name}", 0o755) for name, folder in SCRIPTS.items()),
     *((f"manuals/{name}", f"share/man/man{name[-1]}/{name}.gz", 0o644) for name in MANUALS),
     ("completions/tesla.bash", "share/bash-completion/completions/tesla", 0o644),
     ("completions/_tesla", "share/zsh/site-functions/_tesla", 0o644),

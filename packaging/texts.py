@@ -10,7 +10,7 @@ from layout import SCRIPTS
 HERE = os.path.dirname(os.path.abspath(__file__))
 MARKED = '.\\" This file is generated of tesla.1.in and of `tesla --help` by packaging/generate.\n'
 SCRIPT = "# This file is generated of `tesla --help` by packaging/generate.\n"
-OF_SCRIPT = '.\\" This file is generated of converters/{} by packaging/generate.\n'
+OF_SCRIPT = '.\\" This file is generated of {}/{} by packaging/generate.\n'
 
 
 def of_words(words):
@@ -92,15 +92,15 @@ def paragraph(text, marked):
 
 
 def manual_of(name, date):
-    """The manual page of a script of converters/, of what it tells without words."""
-    with open(f"{HERE}/../converters/{name}", encoding="utf-8") as file:
+    """The manual page of a script, of what it tells without words."""
+    with open(f"{HERE}/../{SCRIPTS[name]}/{name}", encoding="utf-8") as file:
         head, *rest = ast.get_docstring(ast.parse(file.read())).split("\n\n")
     does, _, line = head.partition(": ")
     words = line.split()[1:]
     lines = [f".Dd {date}", f".Dt {name.upper()} 1", ".Os", ".Sh NAME", f".Nm {name}", f".Nd {does[:1].lower()}{does[1:]}",
              ".Sh SYNOPSIS", ".Nm", f".Ar {' '.join(words)}", ".Sh DESCRIPTION"]
     told = [line for text in rest for line in paragraph(text, words)]
-    return OF_SCRIPT.format(name) + "\n".join([*lines, *told[told[0] == ".Pp":], ".Sh SEE ALSO", ".Xr tesla 1 ,", ".Xr tesla-formats 5", ""])
+    return OF_SCRIPT.format(SCRIPTS[name], name) + "\n".join([*lines, *told[told[0] == ".Pp":], ".Sh SEE ALSO", ".Xr tesla 1 ,", ".Xr tesla-formats 5", ""])
 
 
 def bash_case(form):

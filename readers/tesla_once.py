@@ -25,8 +25,12 @@ class Once:
     def is_first(self, record):
         """Whether no record of this name is known. From then on it is known, and the oldest name is forgotten where there is no
         room."""
+        return self.is_first_name(record.epoch, record.interval, record.number)
+
+    def is_first_name(self, epoch, interval, number):
+        """The same of a record that has this name."""
         # (one number takes less memory than three)
-        name = record.epoch << 48 | record.interval << 16 | record.number
+        name = epoch << 48 | interval << 16 | number
         if name in self._known:
             return False
         if len(self._turns) >= self.most:
