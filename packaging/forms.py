@@ -12,7 +12,7 @@ STATUS = re.compile(r"(\d+) ([^,.]+)[,.]")
 KINDS = {
     "file": {"SETUP", "SECRET", "SCRIPT", "CAPTURE", "ASK", "REPLY", "KEY", "TRACE",
              "SETUP-OUT", "SECRET-OUT", "SCRIPT-OUT", "OUT", "ASK-OUT", "REPLY-OUT", "TAIL", "STATUS"},
-    "files": {"SINKS"},
+    "files": {"SINKS", "SETUPS", "SECRETS"},
     "address": {"LINK", "LINKS", "POSTS"},
     "number": {"LAG", "CAPACITY", "STREAM", "START", "INTERVAL", "LAST", "TAG", "DELAY", "DRIFT", "READING", "SEED", "COUNT",
                "GAP", "KEEP", "EVERY", "RATE"},

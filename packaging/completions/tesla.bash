@@ -27,7 +27,7 @@ _tesla()
         play) kinds=(file address) ;;
         record) kinds=(file number number address files number file) ;;
         capture) kinds=(address file) ;;
-        feed) kinds=(file file address address file number) ;;
+        feed) kinds=(files files address address file number) ;;
         watch) kinds=(file number number address files file number) ;;
         watch-relay) kinds=(number address address file number) ;;
         follow) kinds=(file number number address files file number) ;;
