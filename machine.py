@@ -26,9 +26,9 @@ def lines_of(folder):
 class Run(running.Run):
     """A run of the program that listens at these ports."""
 
-    def __init__(self, program, folder, words, ports=(), before=(), stop=None):
+    def __init__(self, program, folder, words, ports=(), before=(), stop=None, **more):
         env = {**os.environ, **({"TESLA_STOP": stop} if stop else {})}
-        super().__init__(folder, [*before, program, *words], ports, stderr=subprocess.PIPE, env=env)
+        super().__init__(folder, [*before, program, *words], ports, stderr=subprocess.PIPE, env=env, **more)
         self.said = []
 
     def told(self):

@@ -77,10 +77,12 @@ REPLY = bytes.fromhex("5452455001 00000000004c4b40 00000000004c9960"
 
 
 def are_listening():
-    """Whether all live commands of this session are bound to the ports of their links."""
+    """Whether all live commands of this session are bound to the ports of their links, and have their sockets."""
     commands = [(read(f"{path}/cmdline") or b"").split(b"\0") for path in processes(os.getsid(0))]
+    if any(os.path.basename(it) == b"tesla-join" for words in commands for it in words[:2]):
+        return False
     links = [word for words in commands if os.path.basename(words[0]) == b"tesla" for word in words[2:]]
-    return all(is_bound(int(port)) for word in links for port in re.findall(rb":([0-9]+)/[0-9]+", word))
+    return all(is_bound(int(port)) for word in links for port in re.findall(rb"(?<!fd):([0-9]+)/[0-9]+", word))
 
 
 # What stands in for `sleep` where documents let a program begin to listen: on a slow machine that may take longer.

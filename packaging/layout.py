@@ -15,10 +15,10 @@ WRITTEN = ("/usr/bin/tesla ", "/usr/libexec/tesla/")
 # the links between them lead to files.
 GUIDE = ["README.md", "docs/COSTS.md", "docs/FORMATS.md", "docs/LAWS.md", "docs/OPERATING.md", "docs/PROTOCOL.md", "docs/RECEIVER.md",
          "docs/TRUST.md", *sorted(glob.glob("docs/operating/*.md", root_dir=TOP))]
-MANUALS = ["tesla.1", "tesla-capture-to-pcap.1", "tesla-pcap-to-capture.1", "tesla-text-to-script.1", "tesla-records.1",
+MANUALS = ["tesla.1", "tesla-capture-to-pcap.1", "tesla-pcap-to-capture.1", "tesla-text-to-script.1", "tesla-join.1", "tesla-records.1",
            "tesla-readers.3", "tesla-formats.5", "tesla-units.7", "tesla-wireshark.7"]
 # The scripts that are commands, and where they stand below the top of the repository.
-SCRIPTS = {**dict.fromkeys(("tesla-capture-to-pcap", "tesla-pcap-to-capture", "tesla-text-to-script"), "converters"),
+SCRIPTS = {**dict.fromkeys(("tesla-capture-to-pcap", "tesla-pcap-to-capture", "tesla-text-to-script", "tesla-join"), "converters"),
            "tesla-records": "readers"}
 
 # A source below this folder, where it goes below the prefix, and its rights. In a path that ends with .gz it is compressed.
@@ -28,6 +28,7 @@ FILES = [
     ("completions/tesla.bash", "share/bash-completion/completions/tesla", 0o644),
     ("completions/_tesla", "share/zsh/site-functions/_tesla", 0o644),
     ("systemd/tesla-receive@.service", "lib/systemd/system/tesla-receive@.service", 0o644),
+    ("systemd/tesla-receive@.socket", "lib/systemd/system/tesla-receive@.socket", 0o644),
     ("systemd/tesla-follow@.service", "lib/systemd/system/tesla-follow@.service", 0o644),
     ("systemd/tesla-feed@.service", "lib/systemd/system/tesla-feed@.service", 0o644),
     ("systemd/sinks", "libexec/tesla/sinks", 0o755),

@@ -3,6 +3,7 @@
 
 mod address;
 mod holding;
+mod inherited;
 mod link;
 mod passing;
 mod post;

@@ -6,12 +6,13 @@ ghost use Rattle.tesla_desk.specs.Faults.{HasCause};
 ghost use Rattle.tesla_desk.specs.Links.{Gets};
 
 use crate::address::{ask_for_buffer, bound};
+use crate::inherited::{descriptor_in, inherited_bound};
 use crate::quiets::Quiets;
 use crate::socket::{Missed, TimedSocket};
 use std::io::ErrorKind;
-use std::net::Net;
+use std::net::{Net, UdpSocket};
 use std::rt::Files;
-use std::str;
+use std::{io, str};
 use tesla_base::{MOST_DATAGRAM, Text, read_decimal};
 use tesla_desk::{Got, Link};
 use tesla_reports::{Cause, Ending, Limit, Reporter, monotonic};
@@ -23,20 +24,33 @@ pub struct Listening {
     quiets: Quiets,
 }
 
-/// Binds the address in a link's name, `ADDRESS:PORT/QUIETS`. A name of another form is refused.
+/// Binds the address in a link's name, `ADDRESS:PORT/QUIETS`, or takes the socket of one `fd:N/QUIETS`, which the program
+/// was started with as the descriptor `N`. A name of another form is refused, and so is a socket that isn't of UDP or isn't
+/// bound.
 pub fn bind<R: Net>(rt: &R, name: &str) -> Result<Listening, Cause> {
     let Some((address, quiets)) = name.rsplit_once('/') else {
-        return Err(Cause::Form("a link is ADDRESS:PORT/QUIETS, and there is no /"));
+        return Err(Cause::Form("a link is ADDRESS:PORT/QUIETS or fd:N/QUIETS, and there is no /"));
     };
     let Ok(limit) = read_decimal(quiets.as_bytes()) else {
-        return Err(Cause::Form("a link is ADDRESS:PORT/QUIETS, and QUIETS is no decimal"));
+        return Err(Cause::Form(
+            "a link is ADDRESS:PORT/QUIETS or fd:N/QUIETS, and QUIETS is no decimal",
+        ));
     };
-    let socket = bound(rt, address)?;
-    ask_for_buffer(&socket);
+    let socket = match descriptor_in(address) {
+        Some(number) => inherited_bound(number)?,
+        None => bound_with_buffer(rt, address)?,
+    };
     Ok(Listening {
         socket: TimedSocket::new(socket)?,
         quiets: Quiets::new(limit),
     })
+}
+
+// A socket that is bound to the address, with a buffer as large as the system gives.
+fn bound_with_buffer<R: Net>(rt: &R, address: &str) -> io::Result<UdpSocket> {
+    let socket = bound(rt, address)?;
+    ask_for_buffer(&socket);
+    Ok(socket)
 }
 
 /// A UDP socket that brings datagrams until it was quiet for as many tenths of a second in a row as its name says, or

@@ -2,6 +2,7 @@
 
 ghost use Rattle.std.specs.Prelude.{◌≡◌, None};
 
+use crate::inherited::{descriptor_in, inherited_connected};
 use crate::passing::is_passing;
 use std::net::{Ipv4Addr, Ipv6Addr, Net, SocketAddr, ToSocketAddrs, UdpSocket};
 use std::{io, str};
@@ -9,20 +10,47 @@ use tesla_base::Text;
 use tesla_desk::{Post, PostStep};
 use tesla_reports::{Cause, Limit, Reporter, Tally, monotonic};
 
-/// A socket, and the address that it sends to.
+/// A socket, and the address that it sends to. Without one it is connected, and sends to its peer.
 #[derive(Drop)]
 pub struct Sending {
     socket: UdpSocket,
-    to: SocketAddr,
+    to: Option<SocketAddr>,
 }
 
-/// Finds the address of a post's name, `ADDRESS:PORT`, and binds a socket of its family. Of several addresses the
-/// first is taken for which there is a socket.
+impl Sending {
+    // Hands a datagram to the system: how many bytes it took.
+    fn send(&self, datagram: &[u8]) -> io::Result<usize> {
+        match self.to {
+            Some(to) => self.socket.send_to(datagram, to),
+            None => self.socket.send(datagram),
+        }
+    }
+}
+
+/// Finds the address of a post's name, `ADDRESS:PORT`, and binds a socket of its family; or takes the socket of one
+/// `fd:N`, which the program was started with as the descriptor `N`. Of several addresses the first is taken for which
+/// there is a socket. A socket that isn't of UDP or isn't connected is refused.
 pub fn direct<R: Net>(rt: &R, name: &str) -> Result<Sending, Cause> {
+    match descriptor_in(name) {
+        Some(number) => {
+            let socket = inherited_connected(number)?;
+            Ok(Sending { socket, to: None })
+        }
+        None => direct_to(rt, name),
+    }
+}
+
+// The same of an address.
+fn direct_to<R: Net>(rt: &R, name: &str) -> Result<Sending, Cause> {
     let mut last = Cause::Form("a post is ADDRESS:PORT, and there is no such address");
     for to in name.to_socket_addrs(rt)? {
         match bind_for(rt, to) {
-            Ok(socket) => return Ok(Sending { socket, to }),
+            Ok(socket) => {
+                return Ok(Sending {
+                    socket,
+                    to: Some(to),
+                });
+            }
             Err(error) => last = Cause::System(error),
         }
     }
@@ -124,7 +152,7 @@ impl<'a, R: Eprint> Post for UdpPost<'a, R> {
     /// Asks the system once. An error that passes by itself loses the datagram as on the way: it counts as sent. Any
     /// other error is a fault, an interrupted call too, and so is a datagram that was cut.
     fn send(&mut self, datagram: &[u8]) -> PostStep {
-        let cause = match self.sending.socket.send_to(datagram, self.sending.to) {
+        let cause = match self.sending.send(datagram) {
             Ok(count) if count == datagram.len() => return PostStep::Sent,
             Ok(_) => Cause::Form("the system cut a datagram"),
             Err(error) => {
