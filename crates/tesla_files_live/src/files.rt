@@ -3,7 +3,7 @@
 ghost use Rattle.std.specs.Prelude.{◌≡◌, ◌≢◌, ◌↔◌, ◌++◌, ◌∷◌, [], length, take, IsTrue, Some, OnOk};
 ghost use Rattle.std.specs.List.{Contains};
 
-use crate::identity::{FileId, backing_of, id_of, path_of, standard_output};
+use crate::identity::{FileId, backing_of, id_of, path_of, path_of_descriptor, standard_output};
 use std::alloc::{AllocError, Global};
 use std::fs::{self, Metadata, OpenFile, OpenOptions};
 use std::io;
@@ -113,6 +113,18 @@ impl OpenedFiles {
             file,
             mode: mode_of(&found),
         })
+    }
+
+    /// Notes the file of a descriptor that is open already, by its number in digits. A regular file that was opened before, or
+    /// that is standard output, is refused. It isn't emptied.
+    pub fn admit<R: Files + AllocGlobal>(&mut self, rt: &R, number: &str) -> Result<(), Cause>
+        ensures { take (length self.old.ids.items) self.new.ids.items ≡ self.old.ids.items }
+    {
+        let path = path_of_descriptor(rt, number)?;
+        let found = fs::metadata(rt, path.as_str())?;
+        self.refuse_in_use(rt, path.as_str(), &found)?;
+        self.note(rt, path.as_str(), &found)?;
+        Ok(())
     }
 
     // Refuses a file that was opened before, or that is standard output.

@@ -71,6 +71,11 @@ fn numbers_of(device: u64) -> (u64, u64) {
     (major, minor)
 }
 
+/// The path under which the system has the file of an open descriptor, by its number in digits.
+pub(crate) fn path_of_descriptor<R: AllocGlobal>(rt: &R, number: &str) -> io::Result<String> {
+    Ok(format!(in rt.alloc(); "/proc/self/fd/{number}")?)
+}
+
 /// The path of a name, without symbolic links; `None` where the system doesn't say.
 pub(crate) fn path_of<R: Files + AllocGlobal>(rt: &R, name: &str) -> io::Result<Option<Text>> {
     match known(fs::canonicalize(rt, name))? {

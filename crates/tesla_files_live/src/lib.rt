@@ -1,13 +1,11 @@
-//! Files of the running system, and standard output, as sources and sinks.
+//! Files of the running system: those that are opened, and sources over them.
 #![tactic(auto)]
 
 mod files;
 mod identity;
 mod regular;
-mod sink;
 mod source;
 
 pub use files::{Making, Opened, OpenedFiles};
 pub use regular::read_front;
-pub use sink::{FileSink, Target};
 pub use source::{FRONT, FileSource};

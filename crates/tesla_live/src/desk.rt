@@ -1,6 +1,6 @@
 //! The desk of the running system.
 
-ghost use Rattle.std.specs.Prelude.{◌≡◌, None, Err};
+ghost use Rattle.std.specs.Prelude.{◌≡◌, None, Err, IfOk, IfSome};
 ghost use Rattle.tesla_desk.specs.Faults.{HasCause, no_faults, raised_where_failed};
 ghost use Rattle.tesla_desk.specs.Live.{untold};
 ghost use Rattle.tesla_desk.specs.Outside.{Untold};
@@ -17,15 +17,18 @@ use std::sync::Wait;
 use std::time::Clock;
 use tesla_base::Text;
 use tesla_desk::{CONSOLE, Desk, Environment, Observed, OpenRefusal, SinkOutput};
-use tesla_files_live::{FRONT, FileSink, FileSource, Making, Opened, OpenedFiles, Target};
+use tesla_files_live::{FRONT, FileSource, Making, Opened, OpenedFiles};
 use tesla_net_live::{HeldName, Listening, Sending, UdpLink, UdpPost, bind, direct, hold};
 use tesla_reports::{Cause, LiveIncidents, Reporter};
+use tesla_sinks_live::{
+    LiveSink, SinkName, Target, aim, given, is_pipe, keep, sink_name, stream_to,
+};
 
 /// How many fronts of sources are kept at most: those of the setups of a feed, which has 16 at most.
 const MOST_FRONTS: usize = 16;
 
-/// The files of the system, standard output under the name of the console, UDP sockets as links and posts, clocks over the
-/// system's, and gates that wake one another. It tells no bytes, no letters, no mail and no readings.
+/// The files of the system, standard output under the name of the console, UDP sockets as links and posts, sockets and descriptors as
+/// sinks of records, clocks over the system's, and gates that wake one another. It tells no bytes, no letters, no mail and no readings.
 ///
 /// A run begins where its first link, post or clock is opened. Both clocks of the system are read then, and that is where
 /// all clocks of the run go on from.
@@ -193,6 +196,51 @@ impl<'a, R: Files + Net + Eprint + AllocGlobal> LiveDesk<'a, R> {
     }
 }
 
+impl<'a, R: Files + Net + AllocGlobal> LiveDesk<'a, R> {
+    // Where a sink of records writes to that is no file, or is a pipe that is kept open. `None` of all others.
+    fn target_of(&mut self, name: &str) -> Result<Option<Target<'a, R>>, Cause>
+        ensures { (self.new.reads ≡ self.old.reads) × (self.new.writes ≡ self.old.writes) × (self.new.openings ≡ self.old.openings) }
+    {
+        let target = match sink_name(name) {
+            SinkName::Datagrams(address) => Target::Datagrams(aim(self.rt, address)?),
+            SinkName::Stream(path) => Target::Stream(stream_to(path)?),
+            SinkName::Descriptor(number) => {
+                let descriptor = given(self.rt, number)?;
+                self.opened.admit(self.rt, number)?;
+                Target::Given(descriptor)
+            }
+            SinkName::Path(path) if self.keeps(path) => Target::Pipe(keep(path)?),
+            SinkName::Path(_) => return Ok(None),
+        };
+        Ok(Some(target))
+    }
+
+    // Whether a pipe of this name is kept open, so that its sink outlives its readers.
+    fn keeps(&self, path: &str) -> bool {
+        self.gates.events.is_tried_again() && is_pipe(self.rt, path)
+    }
+}
+
+impl<'a, R: Files + Net + Eprint + AllocGlobal> LiveDesk<'a, R> {
+    // A sink of records that is no file, or is a pipe that is kept open. `None` of all others.
+    fn open_sink_of_records(&mut self, name: &str) -> Result<Option<LiveSink<'a, R>>, OpenRefusal>
+        ensures fresh { IfOk result (λ found. IfSome found (λ it. it.faults ≡ 0)) }
+        ensures named { IfOk result (λ found. IfSome found (λ it. it.name ≡ name.now)) }
+        ensures openings { HasCause self.old.openings self.new.openings (result ≡ Err OpenRefusal.Failed) }
+        ensures same { (self.new.reads ≡ self.old.reads) × (self.new.writes ≡ self.old.writes) }
+    {
+        let sink_name = Text::new(self.rt.alloc(), name.as_bytes())?;
+        match self.target_of(name) {
+            Ok(Some(target)) => Ok(Some(LiveSink::new(sink_name, target, self.reporter()))),
+            Ok(None) => Ok(None),
+            Err(cause) => {
+                self.tell_unopened("open to write", name, &cause);
+                Err(refusal_of(&mut self.openings, &cause))
+            }
+        }
+    }
+}
+
 impl<'a, R: Files + Net + Clock + Eprint + Print + AllocGlobal + Wait + Sync> Environment
     for LiveDesk<'a, R>
 where
@@ -200,9 +248,9 @@ where
 {
     type In = FileSource<'a, R, R::File>;
 
-    type Out = FileSink<'a, R>;
+    type Out = LiveSink<'a, R>;
 
-    type Pieces = SinkOutput<FileSink<'a, R>>;
+    type Pieces = SinkOutput<LiveSink<'a, R>>;
 
     type Wire = UdpLink<'a, R>;
 
@@ -230,21 +278,29 @@ where
         }
     }
 
-    fn open_console(&mut self) -> Result<FileSink<'a, R>, OpenRefusal> {
+    fn open_console(&mut self) -> Result<LiveSink<'a, R>, OpenRefusal> {
         let sink_name = Text::new(self.rt.alloc(), CONSOLE.as_bytes())?;
-        Ok(FileSink::new(sink_name, Target::Console(self.rt), self.reporter()))
+        Ok(LiveSink::new(sink_name, Target::Console(self.rt), self.reporter()))
     }
 
-    fn open_output(&mut self, name: &str) -> Result<SinkOutput<FileSink<'a, R>>, OpenRefusal> {
+    fn open_output(&mut self, name: &str) -> Result<SinkOutput<LiveSink<'a, R>>, OpenRefusal> {
         let number = take_number(&mut self.numbers.outputs);
-        match self.open_sink(name) {
-            Ok(sink) => {
-                if number < self.gates.events.sinks() {
-                    let sink = sink.of_records(&self.gates.events);
-                    return Ok(SinkOutput { sink });
-                }
-                Ok(SinkOutput { sink })
-            }
+        if self.gates.events.sinks() <= number {
+            return match self.open_sink(name) {
+                Ok(sink) => Ok(SinkOutput { sink }),
+                Err(refusal) => Err(refusal),
+            };
+        }
+        match self.open_sink_of_records(name) {
+            Ok(Some(sink)) => Ok(SinkOutput {
+                sink: sink.of_records(&self.gates.events, number),
+            }),
+            Ok(None) => match self.open_sink(name) {
+                Ok(sink) => Ok(SinkOutput {
+                    sink: sink.of_records(&self.gates.events, number),
+                }),
+                Err(refusal) => Err(refusal),
+            },
             Err(refusal) => Err(refusal),
         }
     }
@@ -294,11 +350,11 @@ where
         count_failed(&mut self.reads, it.faults);
     }
 
-    fn close_sink(&mut self, it: FileSink<'a, R>) {
+    fn close_sink(&mut self, it: LiveSink<'a, R>) {
         count_failed(&mut self.writes, it.into_faults());
     }
 
-    fn close_output(&mut self, it: SinkOutput<FileSink<'a, R>>) {
+    fn close_output(&mut self, it: SinkOutput<LiveSink<'a, R>>) {
         let SinkOutput { sink } = it;
         self.close_sink(sink);
     }
@@ -327,7 +383,7 @@ impl<'a, R: Files + Net + Clock + Eprint + Print + AllocGlobal + Wait + Sync> De
 where
     R::File: Send,
 {
-    fn open_sink(&mut self, name: &str) -> Result<FileSink<'a, R>, OpenRefusal> {
+    fn open_sink(&mut self, name: &str) -> Result<LiveSink<'a, R>, OpenRefusal> {
         if name == CONSOLE {
             return self.open_console();
         }
@@ -337,7 +393,7 @@ where
         match self.opened.create(self.rt, name, making) {
             Ok(Opened { file, mode }) => {
                 self.tell_readable(making != Making::Usual, name, mode);
-                Ok(FileSink::new(sink_name, Target::File(file), self.reporter()))
+                Ok(LiveSink::new(sink_name, Target::File(file), self.reporter()))
             }
             Err(cause) => {
                 self.tell_unopened("open to write", name, &cause);

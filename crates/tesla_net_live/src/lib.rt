@@ -12,4 +12,5 @@ mod socket;
 
 pub use holding::{HeldName, hold};
 pub use link::{Listening, UdpLink, bind};
+pub use passing::is_passing;
 pub use post::{Sending, UdpPost, direct};

@@ -18,7 +18,7 @@ pub(crate) fn passes(code: i32) -> bool
 }
 
 /// Whether the system's error passes by itself.
-pub(crate) fn is_passing(error: &io::Error) -> bool {
+pub fn is_passing(error: &io::Error) -> bool {
     match error.raw_os_error() {
         Some(code) => passes(code),
         None => false,

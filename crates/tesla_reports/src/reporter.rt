@@ -41,10 +41,10 @@ impl<'a, R: Eprint> Reporter<'a, R> {
         );
     }
 
-    /// Tells that what has this name can't be written, and why, and that it is tried again.
-    pub fn cannot_write_yet(&self, name: &str, cause: &Cause) {
+    /// Tells that what has this name can't be written, and why, and how it is tried again.
+    pub fn cannot_write_yet(&self, name: &str, cause: &Cause, how: &str) {
         let _ = eprintln!(self.rt;
-            "tesla: {}: cannot write {name:?}: {cause} (tried again each second)",
+            "tesla: {}: cannot write {name:?}: {cause} ({how})",
             self.command
         );
     }

@@ -1,98 +1,103 @@
-//! A sink over a file or standard output.
+//! A sink of the running system.
 
 ghost use Rattle.std.specs.Prelude.{◌≡◌, ◌≤◌, ◌<◌, None, IfOk, length};
 
-use std::io::Write;
+use crate::target::{Step, Target};
+use std::net::Net;
 use std::rt::Files;
 use std::str;
 use std::sync::Wait;
 use std::time::{Clock, Duration};
 use tesla_base::Text;
 use tesla_desk::{CONSOLE, Sink, WriteStep};
-use tesla_reports::{Cause, Events, Reporter};
+use tesla_reports::{Cause, Events, Reporter, monotonic};
 
-/// How many seconds lie between two tries to write what couldn't be written.
-const PAUSE: u64 = 1;
+/// How many milliseconds lie between two tries to write what couldn't be written.
+const PAUSE: u64 = 1_000;
+/// The same where nobody listens at a socket.
+const SOCKET_PAUSE: u64 = 100;
 
-/// Where the bytes go.
-pub enum Target<'a, R: Files> {
-    File(R::File),
-    Console(&'a R),
-}
-
-/// A file, or standard output, that is written from front to end. What is in it isn't told.
-pub struct FileSink<'a, R: Files> {
+/// A sink that is written from front to end. What is in it isn't told.
+pub struct LiveSink<'a, R: Files> {
     /// The name that it was opened under.
     pub name: Text,
     /// How often its writes failed.
     pub faults: u64,
     target: Target<'a, R>,
     reporter: Reporter<'a, R>,
-    // Where it is counted that it failed, if it is one of records.
+    // Where it is counted that it failed, if it is one of records, and its number among these.
     events: Option<&'a Events>,
+    number: u64,
     // Whether it is counted as one that fails, and is tried again until it is written.
     is_waiting: bool,
 }
 
-impl<'a, R: Files> FileSink<'a, R> {
+impl<'a, R: Files> LiveSink<'a, R> {
     /// A sink under this name, which has not failed yet.
-    pub fn new(name: Text, target: Target<'a, R>, reporter: Reporter<'a, R>) -> FileSink<'a, R>
+    pub fn new(name: Text, target: Target<'a, R>, reporter: Reporter<'a, R>) -> LiveSink<'a, R>
         ensures name { result.name ≡ name }
         ensures faults { result.faults ≡ 0 }
     {
-        FileSink {
+        LiveSink {
             name,
             faults: 0,
             target,
             reporter,
             events: None,
+            number: 0,
             is_waiting: false,
         }
     }
 
-    /// The same sink, as one of records, whose failures are counted here, and which is tried again where that is told.
-    pub fn of_records(self, events: &'a Events) -> FileSink<'a, R>
+    /// The same sink, as the one of records of this number, counted from 0, whose failures are counted here, and which is tried
+    /// again where that is told.
+    pub fn of_records(self, events: &'a Events, number: u64) -> LiveSink<'a, R>
         ensures name { result.name ≡ self.entry.name }
         ensures faults { result.faults ≡ self.entry.faults }
     {
-        let FileSink {
+        let LiveSink {
             name,
             faults,
             target,
             reporter,
             events: _,
+            number: _,
             is_waiting,
         } = self;
-        FileSink {
+        LiveSink {
             name,
             faults,
             target,
             reporter,
             events: Some(events),
+            number,
             is_waiting,
         }
     }
 
-    /// How often its writes failed. The file, if there is one, is let go.
+    /// How often its writes failed. What it was written to is let go.
     pub fn into_faults(self) -> u64
         ensures { result ≡ self.entry.faults }
     {
-        let FileSink {
+        let LiveSink {
             name: _,
             faults,
             target,
             reporter: _,
             events: _,
+            number: _,
             is_waiting: _,
         } = self;
         match target {
             Target::File(_) | Target::Console(_) => {}
+            Target::Pipe(_) | Target::Given(_) => {}
+            Target::Datagrams(_) | Target::Stream(_) => {}
         }
         faults
     }
 }
 
-impl<'a, R: Files + Eprint> FileSink<'a, R> {
+impl<'a, R: Files + Eprint> LiveSink<'a, R> {
     // The name that it is told under.
     fn shown(&self) -> &str {
         let name = str::from_utf8(self.name.bytes()).unwrap_or("");
@@ -129,7 +134,11 @@ impl<'a, R: Files + Eprint> FileSink<'a, R> {
         if self.is_waiting {
             return;
         }
-        self.reporter.cannot_write_yet(self.shown(), cause);
+        let how = match &self.target {
+            Target::Stream(_) => "tried again until somebody listens",
+            _ => "tried again each second",
+        };
+        self.reporter.cannot_write_yet(self.shown(), cause, how);
         if let Some(events) = self.events {
             events.count_failed_sink();
         }
@@ -149,40 +158,61 @@ impl<'a, R: Files + Eprint> FileSink<'a, R> {
     }
 }
 
-impl<'a, R: Files> FileSink<'a, R> {
-    // Whether a failure ends the sink. One that is tried again ends where the run is asked to end, and where nobody reads its pipe
-    // any more: who opens it next would begin to read within a record.
-    fn is_final(&self, cause: &Cause) -> bool {
-        let Some(events) = self.events else {
-            return true;
-        };
-        !events.is_tried_again()
-            || cause.is_of_reader()
-            || events.ending.has_begun(self.reporter.system())
-    }
-}
-
-impl<'a, R: Files + Print> FileSink<'a, R> {
-    // Asks the system once. Any error is a fault, an interrupted call too.
-    fn ask(&mut self, piece: &[u8]) -> Result<usize, Cause>
-        ensures taken { IfOk result (λ count. (count ≤ length piece.now) × (0 < length piece.now → 0 < count)) }
+impl<'a, R: Files + Eprint> LiveSink<'a, R> {
+    // Tells that the system refused to send a datagram, which is lost as on the way: once a second at most.
+    fn tell_lost(&mut self, cause: &Cause)
         ensures name { self.new.name ≡ self.old.name }
         ensures faults { self.new.faults ≡ self.old.faults }
     {
-        let taken = match &mut self.target {
-            Target::File(file) => file.write(piece),
-            Target::Console(rt) => rt.write_some(piece),
+        let Target::Datagrams(datagrams) = &mut self.target else {
+            return;
         };
-        match taken {
-            Ok(count) if 0 < count || piece.is_empty() => Ok(count),
-            Ok(_) => Err(Cause::Form("the system took no byte")),
-            Err(error) => Err(Cause::System(error)),
+        if let Some(left_out) = datagrams.limit.admit(monotonic()) {
+            self.reporter
+                .passed("sink", self.number, self.shown(), cause, left_out);
         }
     }
 }
 
-impl<'a, R: Files + Print + Eprint + Clock + Wait> FileSink<'a, R> {
-    // Asks the system until it takes some of the piece, a second behind each failure that is waited for.
+impl<'a, R: Files> LiveSink<'a, R> {
+    // Whether a failure ends the sink. One of records is tried again where the run says so, and a stream always: both end where the
+    // run is asked to end. What is no stream also ends where nobody reads it any more: who came next would begin to read within
+    // a record.
+    fn is_final(&self, cause: &Cause) -> bool {
+        let Some(events) = self.events else {
+            return true;
+        };
+        let is_waited_for = match &self.target {
+            Target::Stream(_) => true,
+            _ => events.is_tried_again() && !cause.is_of_reader(),
+        };
+        !is_waited_for || events.ending.has_begun(self.reporter.system())
+    }
+
+    // How many milliseconds lie between two tries.
+    fn pause(&self) -> u64 {
+        match &self.target {
+            Target::Stream(_) => SOCKET_PAUSE,
+            _ => PAUSE,
+        }
+    }
+
+    // Keeps a pipe open no longer where the run is asked to end: where it has no room and no reader, the next write fails.
+    fn look_for_end(&mut self)
+        ensures name { self.new.name ≡ self.old.name }
+        ensures faults { self.new.faults ≡ self.old.faults }
+    {
+        let (Target::Pipe(pipe), Some(events)) = (&mut self.target, self.events) else {
+            return;
+        };
+        if events.ending.has_begun(self.reporter.system()) {
+            pipe.let_go();
+        }
+    }
+}
+
+impl<'a, R: Files + Print + Eprint + Net + Clock + Wait> LiveSink<'a, R> {
+    // Asks the system until it takes some of the piece, a while behind each failure that is waited for.
     fn ask_on(&mut self, piece: &[u8]) -> Result<usize, Cause>
         ensures taken { IfOk result (λ count. (count ≤ length piece.now) × (0 < length piece.now → 0 < count)) }
         ensures name { self.new.name ≡ self.old.name }
@@ -190,18 +220,25 @@ impl<'a, R: Files + Print + Eprint + Clock + Wait> FileSink<'a, R> {
     {
         let rt = self.reporter.system();
         for _ in rt.forever() {
-            match self.ask(piece) {
-                Ok(count) => return Ok(count),
-                Err(cause) if self.is_final(&cause) => return Err(cause),
-                Err(cause) => self.tell_waiting(&cause),
+            match self.target.write(rt, piece) {
+                Step::Took(count) => return Ok(count),
+                Step::Lost(cause) => {
+                    self.tell_lost(&cause);
+                    return Ok(piece.len());
+                }
+                Step::Waited => self.look_for_end(),
+                Step::Failed(cause) if self.is_final(&cause) => return Err(cause),
+                Step::Failed(cause) => {
+                    self.tell_waiting(&cause);
+                    rt.sleep(Duration::from_millis(self.pause()));
+                }
             }
-            rt.sleep(Duration::from_secs(PAUSE));
         }
         unreachable!()
     }
 }
 
-impl<'a, R: Files + Print + Eprint + Clock + Wait> Sink for FileSink<'a, R> {
+impl<'a, R: Files + Print + Eprint + Net + Clock + Wait> Sink for LiveSink<'a, R> {
     ghost written = { λ _. None };
 
     ghost faults = { λ it. it.faults };

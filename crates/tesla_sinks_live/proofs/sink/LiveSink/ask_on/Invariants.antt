@@ -1,5 +1,5 @@
 use Rattle.std.proofs.Common.{◌≡◌}
-use Rattle.tesla_files_live.proofs.sink.FileSink.ask_on.Given as goal
+use Rattle.tesla_sinks_live.proofs.sink.LiveSink.ask_on.Given as goal
 
 abbrev pub invariant-loop : goal.invariant-loop
 invariant-loop g l = record {
