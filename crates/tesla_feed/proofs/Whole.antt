@@ -7,7 +7,7 @@ use Rattle.tesla_desk.specs.declared.link.Letter.{Letter}
 use Rattle.tesla_relay.specs.Posts.{PostSeen, with_datagrams}
 use Rattle.tesla_sender.specs.Made.{Stream}
 use Rattle.tesla_feed.specs.Feed.{SendPosts, has_failed}
-use Rattle.tesla_feed.specs.Steps.{StopsHearing}
+use Rattle.tesla_feed.specs.Steps.{StopsHearing, lacks_sender}
 use Rattle.tesla_feed.specs.declared.hearing.Hearing.{Hearing}
 use Rattle.tesla_feed.specs.declared.hearing.Hearing.TheVariants as hearings
 use Rattle.tesla_feed.proofs.Going.{both_ways}
@@ -40,11 +40,13 @@ map_both f (x ∷ xs) ys = ap (λ zs. f x ∷ zs) (map_both f xs ys)
 
 -- ---- the end
 
--- nothing is left of the link, where it didn't fail and not all posts did
-pub ended : (hearing : Hearing) (mid failed : List Bool) (later : Option (List Letter)) → StopsHearing hearing mid later → (hearing ≡ hearings.LinkFailed → ⊥) → (list_all has_failed mid ≡ true → failed ≡ mid) → list_all has_failed failed ≡ false → IfSome later (λ rest. rest ≡ [])
-ended hearings.Ended mid failed later stops no_fault stays some = stops
-ended hearings.LinkFailed mid failed later stops no_fault stays some = absurd (no_fault refl)
-ended hearings.Unheard mid failed later stops no_fault stays some = absurd (both_ways (list_all has_failed failed) (ap (list_all has_failed) (stays stops) ∙ stops) some)
+-- nothing is left of the link, where it didn't fail, not all posts did, and no sender is lacking
+pub ended : (hearing : Hearing) (mid failed : List Bool) (later : Option (List Letter)) → StopsHearing hearing mid later → (hearing ≡ hearings.LinkFailed → ⊥) → lacks_sender hearing ≡ false → (list_all has_failed mid ≡ true → failed ≡ mid) → list_all has_failed failed ≡ false → IfSome later (λ rest. rest ≡ [])
+ended hearings.Ended mid failed later stops no_fault there stays some = stops
+ended hearings.LinkFailed mid failed later stops no_fault there stays some = absurd (no_fault refl)
+ended hearings.Lacking mid failed later stops no_fault there stays some = absurd cc
+ended hearings.Lost mid failed later stops no_fault there stays some = absurd cc
+ended hearings.Unheard mid failed later stops no_fault there stays some = absurd (both_ways (list_all has_failed failed) (ap (list_all has_failed) (stays stops) ∙ stops) some)
 
 -- ---- streams
 

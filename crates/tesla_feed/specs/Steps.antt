@@ -125,3 +125,13 @@ abbrev pub StopsHearing : Hearing → List Bool → Option (List Letter) → Typ
 StopsHearing hearings.Ended failed later = IfSome later (λ rest. rest ≡ [])
 StopsHearing hearings.LinkFailed failed later = Unit {0}
 StopsHearing hearings.Unheard failed later = list_all has_failed failed ≡ true
+StopsHearing hearings.Lacking failed later = Unit {0}
+StopsHearing hearings.Lost failed later = Unit {0}
+
+-- no more items were taken since the sender of a later stream can't be had
+abbrev pub lacks_sender : Hearing → Bool
+lacks_sender hearings.Ended = false
+lacks_sender hearings.LinkFailed = false
+lacks_sender hearings.Unheard = false
+lacks_sender hearings.Lacking = true
+lacks_sender hearings.Lost = true

@@ -17,11 +17,11 @@ use Rattle.tesla_feeds.specs.Order.{handover_to}
 
 -- ---- tests
 
-or_first : (a b : Bool) → (a || b) ≡ false → a ≡ false
+pub or_first : (a b : Bool) → (a || b) ≡ false → a ≡ false
 or_first true b none = none
 or_first false b none = refl
 
-or_second : (a b : Bool) → (a || b) ≡ false → b ≡ false
+pub or_second : (a b : Bool) → (a || b) ≡ false → b ≡ false
 or_second true b none = absurd cc
 or_second false b none = none
 
@@ -80,11 +80,11 @@ each_none act [] none = refl
 each_none act (part ∷ parts) none = ap (λ (d : Done). both_done d (done_each act parts)) none.0 ∙ ap (both_done (nothing_done part)) (each_none act parts none.1)
 
 module _ (reading : ℕ) (read : is_unread reading ≡ false) where
-  hand_none : (parts : List Part) → AllByRecursion (IsEarly reading) parts → AllByRecursion (λ part. handed_over reading part ≡ nothing_done part) parts
+  pub hand_none : (parts : List Part) → AllByRecursion (IsEarly reading) parts → AllByRecursion (λ part. handed_over reading part ≡ nothing_done part) parts
   hand_none [] early = tt
   hand_none (part ∷ parts) early = (over_none part reading part.next (before_first (is_unread reading) part.first (interval_of_part part reading) early.0 read), hand_none parts early.1)
 
-  tell_none : (parts : List Part) → AllByRecursion (IsEarly reading) parts → AllByRecursion (λ part. disclosed reading part ≡ nothing_done part) parts
+  pub tell_none : (parts : List Part) → AllByRecursion (IsEarly reading) parts → AllByRecursion (λ part. disclosed reading part ≡ nothing_done part) parts
   tell_none [] early = tt
   tell_none (part ∷ parts) early = (told_none part reading early.0, tell_none parts early.1)
 
@@ -99,7 +99,7 @@ item_where parts reading false is early = read_none reading is parts early
 
 -- ---- before the first interval
 
-none_begun : (streams : List Stream) (opening reading : ℕ) → some_begun streams opening reading ≡ false → AllByRecursion (IsEarly reading) (parts_at opening streams)
+pub none_begun : (streams : List Stream) (opening reading : ℕ) → some_begun streams opening reading ≡ false → AllByRecursion (IsEarly reading) (parts_at opening streams)
 none_begun [] opening reading none = tt
 none_begun (stream ∷ streams) opening reading none =
     let first = begins_by opening reading stream in

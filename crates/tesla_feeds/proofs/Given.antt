@@ -8,6 +8,7 @@ use Rattle.tesla_feed.specs.Fed.{Event, has_ended}
 use Rattle.tesla_feed.proofs.Given.{given_more}
 use Rattle.tesla_feeds.specs.Fed.{Fed, after_event, fed_all, fed_from, lasting, parts_at}
 use Rattle.tesla_feeds.specs.Going.{ComesOfGiven, fed_after}
+use Rattle.tesla_feeds.specs.Later.{are_right_where_used}
 use Rattle.tesla_feeds.specs.Opening.{first_lasts, opened_at}
 
 -- ---- a list whose first stream isn't over
@@ -23,8 +24,8 @@ fed_lasting (stream ∷ streams) opening events lasts = lasting_where stream str
 
 -- ---- what came of events
 
-module _ (gave : ℕ → Bool) (read_for : ℕ → List ℕ → ℕ → Bool) (streams : List Stream) (number : ℕ) (fed : Fed) (event : Event)
-    (comes : ComesOfGiven gave read_for streams number fed) (given : IsGiven gave read_for number event) where
+module _ (right : Stream → Bool) (gave : ℕ → Bool) (read_for : ℕ → List ℕ → ℕ → Bool) (streams : List Stream) (number : ℕ) (fed : Fed) (event : Event)
+    (comes : ComesOfGiven right gave read_for streams number fed) (given : IsGiven gave read_for number event) where
   pub all_given : AreGiven gave read_for 0 (comes.events ++ event ∷ [])
   all_given = given_more gave read_for 0 comes.events event comes.given
       (subst (λ (n : ℕ). IsGiven gave read_for n event) (sym comes.number_is) given)
@@ -35,8 +36,11 @@ module _ (gave : ℕ → Bool) (read_for : ℕ → List ℕ → ℕ → Bool) (s
       ∙ fold-append after_event (opened_at comes.opening streams) comes.events (event ∷ [])
       ∙ ap (λ (f : Fed). after_event f event) (sym (fed_lasting streams comes.opening comes.events comes.lasts) ∙ comes.fed_is)
 
-  pub comes_more : ComesOfGiven gave read_for streams (datagrams_by number event) (after_event fed event)
-  comes_more = record {
+  pub used_given : are_right_where_used right (after_event fed event) ≡ true → are_right_where_used right (fed_all streams comes.opening (comes.events ++ event ∷ [])) ≡ true
+  used_given used = ap (are_right_where_used right) all_fed ∙ used
+
+  pub comes_more : are_right_where_used right (after_event fed event) ≡ true → ComesOfGiven right gave read_for streams (datagrams_by number event) (after_event fed event)
+  comes_more used = record {
     opening = comes.opening;
     opened = comes.opened;
     lasts = comes.lasts;
@@ -44,12 +48,13 @@ module _ (gave : ℕ → Bool) (read_for : ℕ → List ℕ → ℕ → Bool) (s
     given = all_given;
     number_is = fold-append datagrams_by 0 comes.events (event ∷ []) ∙ ap (λ (n : ℕ). datagrams_by n event) comes.number_is;
     fed_is = all_fed;
+    used = used;
   }
 
-  pub comes_events : comes_more.events ≡ comes.events ++ event ∷ []
+  pub comes_events : (used : are_right_where_used right (after_event fed event) ≡ true) → (comes_more used).events ≡ comes.events ++ event ∷ []
   unfolding comes_more
-  comes_events = refl
+  comes_events used = refl
 
-  pub comes_opening : comes_more.opening ≡ comes.opening
+  pub comes_opening : (used : are_right_where_used right (after_event fed event) ≡ true) → (comes_more used).opening ≡ comes.opening
   unfolding comes_more
-  comes_opening = refl
+  comes_opening used = refl

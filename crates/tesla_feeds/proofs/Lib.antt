@@ -14,9 +14,13 @@ mod Given
 mod Noted
 mod Early
 mod Streams
+mod Needs
+mod Ended
+mod Opened
+mod Behind
+mod Brought
 mod Going
 mod Begun
 mod Run
-mod Opened
 mod Apart
 mod Resting

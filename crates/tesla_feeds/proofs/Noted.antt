@@ -1,5 +1,5 @@
 -- What is told of the counts of a feed over a list, as events come one after another.
-use Rattle.std.proofs.Common.{◌≡◌, ◌∙◌, ℕ, Bool, List, [], ◌∷◌, ◌++◌, refl, sym, ap, subst, append_assoc, append-nil}
+use Rattle.std.proofs.Common.{◌≡◌, ◌∙◌, ℕ, Bool, true, List, [], ◌∷◌, ◌++◌, refl, sym, ap, subst, append_assoc, append-nil}
 use Rattle.tesla_sender.specs.Made.{Stream}
 use Rattle.tesla_feed.specs.Due.{IsGiven, datagrams_by}
 use Rattle.tesla_feed.specs.Fed.{Event, counts_of, reading_of}
@@ -8,11 +8,12 @@ use Rattle.tesla_feeds.specs.Due.{IsWholeGiven}
 use Rattle.tesla_feeds.specs.Events.{FeedAll}
 use Rattle.tesla_feeds.specs.Fed.{Fed, after_event}
 use Rattle.tesla_feeds.specs.Going.{NotesOn, Tells, fed_after}
+use Rattle.tesla_feeds.specs.Later.{are_right_where_used}
 use Rattle.tesla_feeds.specs.Notes.{Note, all_counts, note_at, notes_from, notes_of}
 use Rattle.tesla_feeds.specs.Opening.{opened_at}
 use Rattle.tesla_feeds.specs.declared.events.FeedsCounts.{FeedsCounts}
 use Rattle.tesla_feeds.specs.declared.listed.ListedFeeder.{ListedFeeder}
-use Rattle.tesla_feeds.proofs.Given.{all_given, comes_events, comes_more, comes_opening, fed_lasting}
+use Rattle.tesla_feeds.proofs.Given.{all_given, comes_events, comes_more, comes_opening, fed_lasting, used_given}
 
 -- feeders that stand for what was made have its counts
 pub counts_are : (feeders : List ListedFeeder) (counts : FeedsCounts) (fed : Fed) → FeedAll feeders counts fed → counts ≡ all_counts fed
@@ -54,10 +55,10 @@ tells_both fed events more told mid now tells others = λ before was.
 
 -- ---- what may be told
 
-module _ {N : Type 0} (was_told : N → List Note → Type 0) (may_note : N → Note → Type 0) (gave : ℕ → Bool) (read_for : ℕ → List ℕ → ℕ → Bool) (streams : List Stream) (number : ℕ) (fed : Fed) (notes : N)
-    (on : NotesOn was_told may_note gave read_for streams number fed notes) where
+module _ {N : Type 0} (right : Stream → Bool) (was_told : N → List Note → Type 0) (may_note : N → Note → Type 0) (gave : ℕ → Bool) (read_for : ℕ → List ℕ → ℕ → Bool) (streams : List Stream) (number : ℕ) (fed : Fed) (notes : N)
+    (on : NotesOn right was_told may_note gave read_for streams number fed notes) where
   -- all counts are those of what came, where they are those of what was made
-  pub noted_given : (counts : FeedsCounts) → counts ≡ all_counts fed → IsWholeGiven gave read_for streams counts (was_told notes)
+  pub noted_given : (counts : FeedsCounts) → counts ≡ all_counts fed → IsWholeGiven right gave read_for streams counts (was_told notes)
   noted_given counts is =
       let comes = on.comes in
       record {
@@ -66,11 +67,12 @@ module _ {N : Type 0} (was_told : N → List Note → Type 0) (may_note : N → 
         lasts = comes.lasts;
         events = comes.events;
         given = comes.given;
+        used = ap (are_right_where_used right) comes.fed_is ∙ comes.used;
         noted = on.noted;
         counts_are = is ∙ ap all_counts (sym comes.fed_is);
       }
 
-  module _ (event : Event) (given : IsGiven gave read_for number event) (counts : FeedsCounts) (is : counts ≡ all_counts (after_event fed event)) where
+  module _ (event : Event) (given : IsGiven gave read_for number event) (counts : FeedsCounts) (is : counts ≡ all_counts (after_event fed event)) (used : are_right_where_used right (after_event fed event) ≡ true) where
     -- the note of the event
     abbrev one : Note
     one = record { reading = reading_of event; counts = counts }
@@ -94,18 +96,19 @@ module _ {N : Type 0} (was_told : N → List Note → Type 0) (may_note : N → 
           opened = comes.opened;
           lasts = comes.lasts;
           events = comes.events ++ event ∷ [];
-          given = all_given gave read_for streams number fed event comes given;
+          given = all_given right gave read_for streams number fed event comes given;
+          used = used_given right gave read_for streams number fed event comes given used;
           last = notes_more;
         })
 
     -- and then it was
-    pub noting_more : (now : N) → ((before : List Note) → was_told notes before → was_told now (before ++ one ∷ [])) → NotesOn was_told may_note gave read_for streams (datagrams_by number event) (after_event fed event) now
+    pub noting_more : (now : N) → ((before : List Note) → was_told notes before → was_told now (before ++ one ∷ [])) → NotesOn right was_told may_note gave read_for streams (datagrams_by number event) (after_event fed event) now
     noting_more now noted =
         let comes = on.comes in
         record {
-          comes = comes_more gave read_for streams number fed event comes given;
-          noted = subst (λ (o : ℕ). was_told now (notes_of streams o (comes_more gave read_for streams number fed event comes given).events)) (sym (comes_opening gave read_for streams number fed event comes given))
-              (subst (λ (es : List Event). was_told now (notes_of streams comes.opening es)) (sym (comes_events gave read_for streams number fed event comes given))
+          comes = comes_more right gave read_for streams number fed event comes given used;
+          noted = subst (λ (o : ℕ). was_told now (notes_of streams o (comes_more right gave read_for streams number fed event comes given used).events)) (sym (comes_opening right gave read_for streams number fed event comes given used))
+              (subst (λ (es : List Event). was_told now (notes_of streams comes.opening es)) (sym (comes_events right gave read_for streams number fed event comes given used))
               (subst (λ (ns : List Note). was_told now ns) (sym notes_more) (noted _ on.noted)));
           may = on.may;
         }

@@ -8,13 +8,12 @@ use Rattle.tesla_desk.specs.declared.link.Letter.TheVariants as letters
 use Rattle.tesla_sender.specs.Made.{Disclose, Stream}
 use Rattle.tesla_sender.specs.declared.refusal.SendRefusal.{SendRefusal}
 use Rattle.tesla_feed.specs.Fed.{Event, Received, Rested, has_ended, is_due, is_unread, name_from}
-use Rattle.tesla_feeds.specs.Fed.{Done, Fed, Part, after_event, after_handover, after_item, after_message, after_missed, after_read, call_done, disclosed, done_behind, done_each, done_on, fed_all, fed_from, handed_as, handed_over, handed_to, is_on, lasting, may_hand_over, nothing_done, one_done, parts_at, said, said_as}
+use Rattle.tesla_feeds.specs.Fed.{Done, Fed, Part, after_event, after_handover, after_item, after_message, after_missed, after_read, call_done, disclosed, done_behind, done_each, done_on, fed_from, handed_as, handed_over, handed_to, is_on, lasting, may_hand_over, nothing_done, one_done, parts_at, said, said_as}
 use Rattle.tesla_feeds.specs.Laws.{FeedsLasting}
-use Rattle.tesla_feeds.specs.Opening.{first_lasts, opened_at, streams_of}
+use Rattle.tesla_feeds.specs.Opening.{first_lasts, streams_of}
 use Rattle.tesla_feeds.specs.Order.{handover_to}
 use Rattle.tesla_feeds.specs.Steps.{FeedParts}
 use Rattle.tesla_feeds.specs.declared.listed.ListedFeeder.{ListedFeeder}
-use Rattle.tesla_feeds.proofs.Given.{fed_lasting}
 
 abbrev pub stream_in : Part → Stream
 stream_in part = part.stream
@@ -78,7 +77,7 @@ item_where : (reading : ℕ) (payload : Option (List ℕ)) (fed : Fed) (unread :
 item_where reading payload fed true = missed_same payload fed
 item_where reading payload fed false = read_same reading payload fed
 
-item_same : (reading : ℕ) (payload : Option (List ℕ)) (fed : Fed) → map stream_in (after_item reading payload fed).parts ≡ map stream_in fed.parts
+pub item_same : (reading : ℕ) (payload : Option (List ℕ)) (fed : Fed) → map stream_in (after_item reading payload fed).parts ≡ map stream_in fed.parts
 item_same reading payload fed = item_where reading payload fed (is_unread reading)
 
 event_same : (fed : Fed) (event : Event) → map stream_in (after_event fed event).parts ≡ map stream_in fed.parts
@@ -86,33 +85,23 @@ event_same fed (Received reading (letters.Datagram bytes)) = item_same reading (
 event_same fed (Received reading letters.Quiet) = item_same reading None fed
 event_same fed (Rested reading) = item_same reading None fed
 
-events_same : (fed : Fed) (events : List Event) → map stream_in (fold after_event fed events).parts ≡ map stream_in fed.parts
+pub events_same : (fed : Fed) (events : List Event) → map stream_in (fold after_event fed events).parts ≡ map stream_in fed.parts
 events_same fed [] = refl
 events_same fed (event ∷ events) = events_same (after_event fed event) events ∙ event_same fed event
 
 -- ---- a whole feed
 
-opened_streams : (opening : ℕ) (streams : List Stream) → map stream_in (parts_at opening streams) ≡ streams
+pub opened_streams : (opening : ℕ) (streams : List Stream) → map stream_in (parts_at opening streams) ≡ streams
 opened_streams opening [] = refl
 opened_streams opening (stream ∷ streams) = ap (λ (ss : List Stream). stream ∷ ss) (opened_streams opening streams)
 
 -- the feeders' streams are those that they stand for
-parts_streams : (feeders : List ListedFeeder) (parts : List Part) → FeedParts feeders parts → streams_of feeders ≡ map stream_in parts
+pub parts_streams : (feeders : List ListedFeeder) (parts : List Part) → FeedParts feeders parts → streams_of feeders ≡ map stream_in parts
 parts_streams [] [] stands = refl
 parts_streams [] (part ∷ parts) stands = absurd stands
 parts_streams (feeder ∷ feeders) [] stands = absurd stands
 parts_streams (feeder ∷ feeders) (part ∷ parts) stands =
     ap (λ (s : Stream). s ∷ streams_of feeders) stands.0.stands.stream_is ∙ ap (λ (ss : List Stream). part.stream ∷ ss) (parts_streams feeders parts stands.1)
-
-pub opened_are : (feeders : List ListedFeeder) (opening : ℕ) (streams : List Stream) → FeedParts feeders (parts_at opening streams) → streams_of feeders ≡ streams
-opened_are feeders opening streams stands = parts_streams feeders (parts_at opening streams) stands ∙ opened_streams opening streams
-
-pub streams_are : (feeders : List ListedFeeder) (streams : List Stream) (opening : ℕ) (events : List Event) → first_lasts opening streams ≡ true → FeedParts feeders (fed_all streams opening events).parts → streams_of feeders ≡ streams
-streams_are feeders streams opening events lasts stands =
-    parts_streams feeders (fed_all streams opening events).parts stands
-    ∙ ap (λ (f : Fed). map stream_in f.parts) (fed_lasting streams opening events lasts)
-    ∙ events_same (opened_at opening streams) events
-    ∙ opened_streams opening streams
 
 -- ---- the streams that aren't over
 

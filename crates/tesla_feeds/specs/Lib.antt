@@ -3,6 +3,7 @@ pub mod Events
 pub mod Fed
 pub mod Feeds
 pub mod Going
+pub mod Later
 pub mod Laws
 pub mod Notes
 pub mod Opening

@@ -1,6 +1,6 @@
 //! One event of a feed over a list of streams.
 
-ghost use Rattle.std.specs.Prelude.{◌≡◌, ◌+◌, ◌-◌, ◌^◌, List, Some, false, length, map, min};
+ghost use Rattle.std.specs.Prelude.{◌≡◌, ◌+◌, ◌-◌, ◌^◌, List, Some, false, length, map, min, vec_capacity};
 ghost use Rattle.tesla_relay.specs.Posts.{PostSeen};
 ghost use Rattle.tesla_feed.specs.Fed.{is_unread};
 ghost use Rattle.tesla_feeds.specs.Fed.{Fed, after_handover, after_keys, after_message};
@@ -78,6 +78,7 @@ pub fn hand_over<L: Ledger, P: Post>(
     ensures takes { let seen : List P → List PostSeen = λ posts. map (λ post. record { name = P.name post; sent = P.sent post; faults = P.faults post }) posts in
         (fed : Fed) → FeedsAll feeders.old fed → TakesAll (after_handover reading fed) (frames_handed reading fed) feeders.new (seen posts.old) (seen posts.new) failed.old failed.new }
     ensures each { (length posts.new ≡ length posts.old) × (length failed.new ≡ length failed.old) }
+    ensures room { vec_capacity feeders.new.feeders ≡ vec_capacity feeders.old.feeders }
 {
     let sent = hand_over_on(
         feeders.feeders.as_mut_slice(),
@@ -104,6 +105,7 @@ pub fn disclose<L: Ledger, P: Post>(
     ensures takes { let seen : List P → List PostSeen = λ posts. map (λ post. record { name = P.name post; sent = P.sent post; faults = P.faults post }) posts in
         (fed : Fed) → FeedsAll feeders.old fed → TakesAll (after_keys reading fed) (frames_told reading fed) feeders.new (seen posts.old) (seen posts.new) failed.old failed.new }
     ensures each { (length posts.new ≡ length posts.old) × (length failed.new ≡ length failed.old) }
+    ensures room { vec_capacity feeders.new.feeders ≡ vec_capacity feeders.old.feeders }
 {
     disclose_all(
         feeders.feeders.as_mut_slice(),
@@ -130,6 +132,7 @@ pub fn say<L: Ledger, P: Post>(
     ensures takes { let seen : List P → List PostSeen = λ posts. map (λ post. record { name = P.name post; sent = P.sent post; faults = P.faults post }) posts in
         (fed : Fed) → FeedsAll feeders.old fed → TakesAll (after_message reading (Some payload.now) fed) (frames_said reading (Some payload.now) fed) feeders.new (seen posts.old) (seen posts.new) failed.old failed.new }
     ensures each { (length posts.new ≡ length posts.old) × (length failed.new ≡ length failed.old) }
+    ensures room { vec_capacity feeders.new.feeders ≡ vec_capacity feeders.old.feeders }
 {
     let said = say_on(
         feeders.feeders.as_mut_slice(),

@@ -1,21 +1,25 @@
 //! The wait of a feed over a list for its first interval, and the two loops behind it: while the link brings items, and
 //! afterwards.
 
-ghost use Rattle.std.specs.Prelude.{◌≡◌, ◌++◌, ◌∷◌, [], ℕ, List, false, length, map, true};
+ghost use Rattle.std.specs.Prelude.{◌≡◌, ◌<◌, ◌≤◌, ◌++◌, ◌∷◌, [], ℕ, List, false, length, map, true, vec_capacity, vec_len};
 ghost use Rattle.std.specs.List.{list_all};
 ghost use Rattle.tesla_desk.specs.Faults.{HasCause};
 ghost use Rattle.tesla_relay.specs.Posts.{PostSeen};
 ghost use Rattle.tesla_feed.specs.Feed.{has_failed};
-ghost use Rattle.tesla_feed.specs.Steps.{StopsHearing, bytes_in};
+ghost use Rattle.tesla_feed.specs.Steps.{StopsHearing, bytes_in, lacks_sender};
 ghost use Rattle.tesla_feeds.specs.Events.{FeedsAll, MayStage, TakesAll, frames_item};
 ghost use Rattle.tesla_feeds.specs.Fed.{Fed, after_item};
-ghost use Rattle.tesla_feeds.specs.Going.{EndsWaiting, Goes, GoesOn, Hears, NotesOn, Rests};
+ghost use Rattle.tesla_feeds.specs.Going.{EndsHearing, EndsResting, EndsWaiting, Goes, GoesOn, NotesOn};
+ghost use Rattle.tesla_feeds.specs.Later.{StandsAll};
 ghost use Rattle.tesla_feeds.specs.Notes.{Note};
 ghost use Rattle.tesla_feeds.specs.Opening.{opened_at, streams_fed};
 ghost use Rattle.tesla_feeds.specs.Waits.{are_told};
+ghost use Rattle.tesla_sender.specs.Made.{Stream};
 
+use crate::bringing::{bring_needed, is_ready};
+use crate::later::LaterSenders;
 use crate::taking::take_event;
-use crate::{Feeders, Notes};
+use crate::{Feeders, Notes, OpenFeeds};
 use std::sync::Wait;
 use std::sync::ledger::Ledger;
 use tesla_base::{MOST_DATAGRAM, Steps};
@@ -31,34 +35,34 @@ fn tell<N: Notes>(feeders: &Feeders, reading: u64, notes: &mut N) -> u64
     notes.note(reading, &feeders.counts)
 }
 
-/// Reads the clock until the first interval of one of the streams has begun, told the opening, or the gate tells that the run
-/// was asked to end; true where one has begun. The gate rests between two readings, and the counts, which are all 0, are told
-/// at each reading before that.
-pub fn wait_to_begin<R: Wait, C: Clock, G: Gate, N: Notes>(
+/// Reads the clock until the first interval of one of the streams has begun, or the gate tells that the run was asked to end;
+/// true where one has begun. The gate rests between two readings, and the counts, which are all 0, are told at each reading
+/// before that. No sender is brought.
+pub fn wait_to_begin<R: Wait, C: Clock, G: Gate, N: Notes, Y: LaterSenders>(
     rt: &R,
-    feeders: &mut Feeders,
-    opening: u64,
-    instruments: &mut Instruments<C, G, N>,
+    feeds: &mut OpenFeeds,
+    instruments: &mut Instruments<C, G, N, Y>,
 ) -> bool
-    requires stands { FeedsAll feeders.old (opened_at opening (streams_fed feeders.old)) }
-    requires noting { let streams = streams_fed feeders.old in NotesOn N.was_told N.may_note C.gave C.read_for streams 0 (opened_at opening streams) instruments.old.notes }
-    ensures waits { EndsWaiting G.over result (streams_fed feeders.old) opening feeders.old feeders.new (C.told instruments.old.clock) (C.told instruments.new.clock) (N.was_told instruments.old.notes) (N.was_told instruments.new.notes) }
+    requires stands { let left = Y.left instruments.old.later in StandsAll left feeds.old (opened_at feeds.old.opening (streams_fed feeds.old.feeders ++ left)) }
+    requires noting { let streams = streams_fed feeds.old.feeders ++ Y.left instruments.old.later in NotesOn Y.is_right N.was_told N.may_note C.gave C.read_for streams 0 (opened_at feeds.old.opening streams) instruments.old.notes }
+    ensures waits { EndsWaiting G.over result (streams_fed feeds.old.feeders ++ Y.left instruments.old.later) feeds.old.opening feeds.old feeds.new (C.told instruments.old.clock) (C.told instruments.new.clock) (N.was_told instruments.old.notes) (N.was_told instruments.new.notes) }
     ensures fixed { N.fixed instruments.new.notes ≡ N.fixed instruments.old.notes }
-    ensures noting { let streams = streams_fed feeders.old in NotesOn N.was_told N.may_note C.gave C.read_for streams 0 (opened_at opening streams) instruments.new.notes }
+    ensures noting { let streams = streams_fed feeds.old.feeders ++ Y.left instruments.old.later in NotesOn Y.is_right N.was_told N.may_note C.gave C.read_for streams 0 (opened_at feeds.old.opening streams) instruments.new.notes }
+    ensures left { Y.left instruments.new.later ≡ Y.left instruments.old.later }
 {
     for _ in rt.forever() {
         let reading = instruments.clock.now();
-        feeders.note(reading);
-        if feeders.has_begun(opening, reading) {
+        feeds.feeders.note(reading);
+        if feeds.has_begun(reading) {
             return true;
         }
-        instruments.rest = tell(feeders, reading, &mut instruments.notes);
+        instruments.rest = tell(&feeds.feeders, reading, &mut instruments.notes);
         if instruments.gate.is_over() {
             return false;
         }
         instruments
             .gate
-            .rest_for(feeders.until_first(opening).min(instruments.rest));
+            .rest_for(feeds.until_first().min(instruments.rest));
     }
     unreachable!()
 }
@@ -78,19 +82,22 @@ fn take_noted<L: Ledger, P: Post>(
     ensures takes { let seen : List P → List PostSeen = λ posts. map (λ post. record { name = P.name post; sent = P.sent post; faults = P.faults post }) posts in
         (fed : Fed) → FeedsAll feeders.old fed → TakesAll (after_item reading (bytes_in payload.entry) fed) (frames_item reading (bytes_in payload.entry) fed) feeders.new (seen posts.old) (seen posts.new) failed.old failed.new }
     ensures each { (length posts.new ≡ length posts.old) × (length failed.new ≡ length failed.old) }
+    ensures room { vec_capacity feeders.new.feeders ≡ vec_capacity feeders.old.feeders }
 {
     feeders.note(reading);
     take_event(feeders, reading, payload, posts, failed, steps);
 }
 
-/// Takes one item after another off the link, and does what it asks for at one reading of the clock, until the link
-/// ends or fails or all posts have failed. Where no message came the keys of the next intervals are made. It waits for
-/// the link. The clock is asked for each datagram that came, and only what is due is sent. The counts are told behind each item.
-pub fn hear_all<R: Wait, L: Ledger, K: Link, C: Clock, P: Post, G: Gate, N: Notes>(
+/// Takes one item after another off the link, and does what it asks for at one reading of the clock, until the link ends or
+/// fails, all posts have failed, or the sender of a later stream is lacking. Where no message came the keys of the next intervals
+/// are made. It waits for the link, and for the senders that are needed: where one can't be had that an item needs, nothing is
+/// made of that item. The clock is asked for each datagram that came, and only what is due is sent. The counts are told behind
+/// each item.
+pub fn hear_all<R: Wait, L: Ledger, K: Link, C: Clock, P: Post, G: Gate, N: Notes, Y: LaterSenders>(
     rt: &R,
-    feeders: &mut Feeders,
+    feeds: &mut OpenFeeds,
     link: &mut K,
-    instruments: &mut Instruments<C, G, N>,
+    instruments: &mut Instruments<C, G, N, Y>,
     posts: &mut [P],
     failed: &mut [bool],
     steps: &mut Steps<L>,
@@ -100,14 +107,17 @@ pub fn hear_all<R: Wait, L: Ledger, K: Link, C: Clock, P: Post, G: Gate, N: Note
     requires any_link { (link : K) → K.may_ask link ≡ true }
     requires none { K.has_brought link.old 0 ≡ true }
     requires going { let seen : P → PostSeen = λ post. record { name = P.name post; sent = P.sent post; faults = P.faults post } in
-        GoesOn seen P.may_send N.was_told N.may_note C.gave C.read_for (streams_fed feeders.old) 0 feeders.old posts.old failed.old instruments.old.notes }
+        GoesOn Y.is_right seen P.may_send N.was_told N.may_note C.gave C.read_for (streams_fed feeds.old.feeders ++ Y.left instruments.old.later) 0 (Y.left instruments.old.later) feeds.old posts.old failed.old instruments.old.notes }
     ensures hears { let seen : List P → List PostSeen = λ posts. map (λ post. record { name = P.name post; sent = P.sent post; faults = P.faults post }) posts in
-        (fed : Fed) (first_posts : List PostSeen) → Goes fed first_posts feeders.old (seen posts.old) failed.old
-        → Hears fed first_posts feeders.new failed.new (K.left link.old) (K.left link.new) (C.told instruments.old.clock) (C.told instruments.new.clock) (seen posts.new) (N.was_told instruments.old.notes) (N.was_told instruments.new.notes) }
+        (fed : Fed) (first_posts : List PostSeen) → Goes Y.is_right (Y.left instruments.old.later) fed first_posts feeds.old (seen posts.old) failed.old
+        → EndsHearing result Y.is_right (streams_fed feeds.old.feeders ++ Y.left instruments.old.later) feeds.old.opening (Y.left instruments.new.later) fed first_posts feeds.new failed.new (K.left link.old) (K.left link.new) (C.told instruments.old.clock) (C.told instruments.new.clock) (seen posts.new) (N.was_told instruments.old.notes) (N.was_told instruments.new.notes) }
     ensures going { let seen : P → PostSeen = λ post. record { name = P.name post; sent = P.sent post; faults = P.faults post } in
-        (number : ℕ) × GoesOn seen P.may_send N.was_told N.may_note C.gave C.read_for (streams_fed feeders.old) number feeders.new posts.new failed.new instruments.new.notes }
+        (number : ℕ) × GoesOn Y.is_right seen P.may_send N.was_told N.may_note C.gave C.read_for (streams_fed feeds.old.feeders ++ Y.left instruments.old.later) number (Y.left instruments.new.later) feeds.new posts.new failed.new instruments.new.notes }
+    ensures opening { feeds.new.opening ≡ feeds.old.opening }
     ensures fixed { N.fixed instruments.new.notes ≡ N.fixed instruments.old.notes }
     ensures stops { StopsHearing result failed.new (K.left link.new) }
+    ensures some { lacks_sender result ≡ true → 0 < vec_len feeds.old.later }
+    ensures no_more { vec_len feeds.new.later ≤ vec_len feeds.old.later }
     ensures cause { HasCause (K.faults link.old) (K.faults link.new) (result ≡ Hearing.LinkFailed) }
     ensures name { K.name link.new ≡ K.name link.old }
     ensures each { (length posts.new ≡ length posts.old) × (length failed.new ≡ length failed.old) }
@@ -117,19 +127,35 @@ pub fn hear_all<R: Wait, L: Ledger, K: Link, C: Clock, P: Post, G: Gate, N: Note
         if have_all_failed(failed) {
             return Hearing::Unheard;
         }
-        link.wait_at_most(feeders.until_next().min(instruments.rest));
+        if !is_ready(feeds, &mut instruments.later, steps) {
+            return Hearing::Lacking;
+        }
+        link.wait_at_most(feeds.until_next().min(instruments.rest));
         match link.next(&mut buffer) {
             Got::Datagram(length) => {
                 let datagram = &buffer[..length];
                 let reading = instruments.clock.now_for(datagram);
-                take_noted(feeders, reading, Some(datagram), posts, failed, steps);
-                instruments.rest = tell(feeders, reading, &mut instruments.notes);
+                if !bring_needed(feeds, reading, &mut instruments.later, steps) {
+                    return Hearing::Lost;
+                }
+                take_noted(
+                    &mut feeds.feeders,
+                    reading,
+                    Some(datagram),
+                    posts,
+                    failed,
+                    steps,
+                );
+                instruments.rest = tell(&feeds.feeders, reading, &mut instruments.notes);
             }
             Got::Quiet => {
                 let reading = instruments.clock.now();
-                take_noted(feeders, reading, None, posts, failed, steps);
-                instruments.rest = tell(feeders, reading, &mut instruments.notes);
-                feeders.make_next(steps);
+                if !bring_needed(feeds, reading, &mut instruments.later, steps) {
+                    return Hearing::Lost;
+                }
+                take_noted(&mut feeds.feeders, reading, None, posts, failed, steps);
+                instruments.rest = tell(&feeds.feeders, reading, &mut instruments.notes);
+                feeds.feeders.make_next(steps);
             }
             Got::End => return Hearing::Ended,
             Got::Failed => return Hearing::LinkFailed,
@@ -140,38 +166,45 @@ pub fn hear_all<R: Wait, L: Ledger, K: Link, C: Clock, P: Post, G: Gate, N: Note
 
 /// Lets the gate rest until the next interval begins, and does what is due then, until the key of the last message of each
 /// stream, a handover too, was told on every chain or all posts have failed. Only what is due is sent. The counts are told
-/// behind each rest.
-pub fn tell_rest<R: Wait, L: Ledger, C: Clock, P: Post, G: Gate, N: Notes>(
+/// behind each rest. It waits for the senders that are needed; false where one can't be had: nothing is made of the last rest.
+pub fn tell_rest<R: Wait, L: Ledger, C: Clock, P: Post, G: Gate, N: Notes, Y: LaterSenders>(
     rt: &R,
-    feeders: &mut Feeders,
-    instruments: &mut Instruments<C, G, N>,
+    feeds: &mut OpenFeeds,
+    instruments: &mut Instruments<C, G, N, Y>,
     posts: &mut [P],
     failed: &mut [bool],
     steps: &mut Steps<L>,
-)
+) -> bool
     requires each { length failed.old ≡ length posts.old }
     requires going { let seen : P → PostSeen = λ post. record { name = P.name post; sent = P.sent post; faults = P.faults post } in
-        (number : ℕ) × GoesOn seen P.may_send N.was_told N.may_note C.gave C.read_for (streams_fed feeders.old) number feeders.old posts.old failed.old instruments.old.notes }
+        (number : ℕ) × GoesOn Y.is_right seen P.may_send N.was_told N.may_note C.gave C.read_for (streams_fed feeds.old.feeders ++ Y.left instruments.old.later) number (Y.left instruments.old.later) feeds.old posts.old failed.old instruments.old.notes }
     ensures rests { let seen : List P → List PostSeen = λ posts. map (λ post. record { name = P.name post; sent = P.sent post; faults = P.faults post }) posts in
-        (fed : Fed) (first_posts : List PostSeen) → Goes fed first_posts feeders.old (seen posts.old) failed.old
-        → Rests fed first_posts feeders.new failed.new (C.told instruments.old.clock) (C.told instruments.new.clock) (seen posts.new) (N.was_told instruments.old.notes) (N.was_told instruments.new.notes) }
+        (fed : Fed) (first_posts : List PostSeen) → Goes Y.is_right (Y.left instruments.old.later) fed first_posts feeds.old (seen posts.old) failed.old
+        → EndsResting result Y.is_right (streams_fed feeds.old.feeders ++ Y.left instruments.old.later) feeds.old.opening (Y.left instruments.new.later) fed first_posts feeds.new failed.new (C.told instruments.old.clock) (C.told instruments.new.clock) (seen posts.new) (N.was_told instruments.old.notes) (N.was_told instruments.new.notes) }
     ensures going { let seen : P → PostSeen = λ post. record { name = P.name post; sent = P.sent post; faults = P.faults post } in
-        (number : ℕ) × GoesOn seen P.may_send N.was_told N.may_note C.gave C.read_for (streams_fed feeders.old) number feeders.new posts.new failed.new instruments.new.notes }
+        (number : ℕ) × GoesOn Y.is_right seen P.may_send N.was_told N.may_note C.gave C.read_for (streams_fed feeds.old.feeders ++ Y.left instruments.old.later) number (Y.left instruments.new.later) feeds.new posts.new failed.new instruments.new.notes }
     ensures fixed { N.fixed instruments.new.notes ≡ N.fixed instruments.old.notes }
+    ensures some { result ≡ false → 0 < vec_len feeds.old.later }
     ensures stays { list_all has_failed failed.old ≡ true → failed.new ≡ failed.old }
-    ensures ends { (fed : Fed) → FeedsAll feeders.new fed → list_all has_failed failed.new ≡ false → are_told fed.parts ≡ true }
+    ensures ends { (left : List Stream) (fed : Fed) → StandsAll left feeds.new fed → result ≡ true → list_all has_failed failed.new ≡ false → are_told fed.parts ≡ true }
 {
     for _ in rt.forever() {
-        if have_all_failed(failed) || feeders.have_told_all() {
-            return;
+        if have_all_failed(failed) {
+            return true;
+        }
+        if feeds.have_told_all() {
+            return true;
         }
         instruments
             .gate
-            .rest_for(feeders.until_next().min(instruments.rest));
+            .rest_for(feeds.until_next().min(instruments.rest));
         let reading = instruments.clock.now();
-        take_noted(feeders, reading, None, posts, failed, steps);
-        instruments.rest = tell(feeders, reading, &mut instruments.notes);
-        feeders.make_next(steps);
+        if !bring_needed(feeds, reading, &mut instruments.later, steps) {
+            return false;
+        }
+        take_noted(&mut feeds.feeders, reading, None, posts, failed, steps);
+        instruments.rest = tell(&feeds.feeders, reading, &mut instruments.notes);
+        feeds.feeders.make_next(steps);
     }
     unreachable!()
 }

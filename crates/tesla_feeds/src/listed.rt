@@ -5,7 +5,6 @@ ghost use Rattle.tesla_sender.specs.Made.{Disclose, Message, interval_at};
 ghost use Rattle.tesla_feed.specs.Fed.{is_unread};
 ghost use Rattle.tesla_feed.specs.Steps.{until_begin};
 ghost use Rattle.tesla_feeds.specs.Fed.{Part, disclosed, handed_over, said};
-ghost use Rattle.tesla_feeds.specs.Opening.{AreHandovers, PutsHandovers};
 ghost use Rattle.tesla_feeds.specs.Order.{is_in_window};
 ghost use Rattle.tesla_feeds.specs.Steps.{DoesPart, FeedsPart, HandsPart, HandsTo, calls_made, refused_by, size_said};
 ghost use Rattle.tesla_feeds.specs.Waits.{tells_no_more};
@@ -48,34 +47,6 @@ impl Handover {
     }
 }
 
-/// How each of these streams hands over to the one behind it, and the last one to none.
-pub fn handovers(alloc: Global, setups: &[Setup]) -> Result<Vec<Option<Handover>>, NoMemory>
-    ensures { IfOk result (λ all. AreHandovers all.items setups.now) }
-{
-    let mut all = Vec::with_capacity(alloc, setups.len())?;
-    put_handovers(alloc, setups, &mut all)?;
-    Ok(all)
-}
-
-// Puts the handovers of these streams behind those that are there.
-fn put_handovers(
-    alloc: Global,
-    setups: &[Setup],
-    all: &mut Vec<Option<Handover>>,
-) -> Result<(), NoMemory>
-    ensures { IfOk result (λ _. PutsHandovers all.old.items all.new.items setups.now) }
-{
-    let Some((setup, behind)) = setups.split_first() else {
-        return Ok(());
-    };
-    let handover = match behind.first() {
-        Some(next) => Some(Handover::new(alloc, setup, next)?),
-        None => None,
-    };
-    all.push(handover)?;
-    put_handovers(alloc, behind, all)
-}
-
 /// A stream of a list while it is fed.
 #[derive(Drop)]
 pub struct ListedFeeder {
@@ -109,11 +80,11 @@ impl ListedFeeder {
         ensures { let times = self.now.feeder.sender.stream.setup.times in
             result ≡ until_begin times (interval_at times before + 1) reading }
     {
-        let schedule = self.feeder.schedule();
-        let next = u128::from(self.feeder.interval_at(before)) + 1;
-        let begin = u128::from(schedule.start()) + next * u128::from(schedule.length());
-        let begin = begin.min(u128::from(u64::MAX)) as u64;
-        begin.saturating_sub(reading)
+        until_behind(
+            self.feeder.schedule(),
+            self.feeder.interval_at(before),
+            reading,
+        )
     }
 
     /// Makes the frame of a message that came at this reading, where it is sent, and gives its length.
@@ -167,4 +138,15 @@ fn may_hand_over(handover: &Handover, schedule: Schedule, handed: u64, interval:
     ensures { result ≡ (nat_lt handed interval && is_in_window schedule handover.now.delay handover.now.next interval) }
 {
     handed < interval && is_in_window(schedule, handover.delay, handover.next, interval)
+}
+
+/// How many microseconds after a reading the interval behind this one begins, 0 where it has begun. A begin behind 2^64 - 1
+/// counts as that.
+pub fn until_behind(schedule: Schedule, interval: u64, reading: u64) -> u64
+    ensures { result ≡ until_begin schedule (interval + 1) reading }
+{
+    let next = u128::from(interval) + 1;
+    let begin = u128::from(schedule.start()) + next * u128::from(schedule.length());
+    let begin = begin.min(u128::from(u64::MAX)) as u64;
+    begin.saturating_sub(reading)
 }

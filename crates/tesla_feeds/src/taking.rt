@@ -1,6 +1,6 @@
 //! One event of a feed over a list of streams, whole.
 
-ghost use Rattle.std.specs.Prelude.{◌≡◌, List, length, map};
+ghost use Rattle.std.specs.Prelude.{◌≡◌, List, length, map, vec_capacity};
 ghost use Rattle.tesla_relay.specs.Posts.{PostSeen};
 ghost use Rattle.tesla_feed.specs.Steps.{bytes_in};
 ghost use Rattle.tesla_feeds.specs.Fed.{Fed, after_item, after_message, after_missed};
@@ -28,6 +28,7 @@ fn say_item<L: Ledger, P: Post>(
     ensures takes { let seen : List P → List PostSeen = λ posts. map (λ post. record { name = P.name post; sent = P.sent post; faults = P.faults post }) posts in
         (fed : Fed) → FeedsAll feeders.old fed → TakesAll (after_message reading (bytes_in payload.entry) fed) (frames_said reading (bytes_in payload.entry) fed) feeders.new (seen posts.old) (seen posts.new) failed.old failed.new }
     ensures each { (length posts.new ≡ length posts.old) × (length failed.new ≡ length failed.old) }
+    ensures room { vec_capacity feeders.new.feeders ≡ vec_capacity feeders.old.feeders }
 {
     if let Some(payload) = payload {
         say(feeders, reading, payload, posts, failed, steps);
@@ -36,7 +37,8 @@ fn say_item<L: Ledger, P: Post>(
 
 // Counts a message that came while the clock couldn't be read.
 fn miss(feeders: &mut Feeders, payload: Option<&[u8]>)
-    ensures { (fed : Fed) → FeedsAll feeders.old fed → FeedsAll feeders.new (after_missed (bytes_in payload.entry) fed) }
+    ensures misses { (fed : Fed) → FeedsAll feeders.old fed → FeedsAll feeders.new (after_missed (bytes_in payload.entry) fed) }
+    ensures room { vec_capacity feeders.new.feeders ≡ vec_capacity feeders.old.feeders }
 {
     if payload.is_some() {
         feeders.counts.count_unread();
@@ -61,6 +63,7 @@ pub fn take_event<L: Ledger, P: Post>(
     ensures takes { let seen : List P → List PostSeen = λ posts. map (λ post. record { name = P.name post; sent = P.sent post; faults = P.faults post }) posts in
         (fed : Fed) → FeedsAll feeders.old fed → TakesAll (after_item reading (bytes_in payload.entry) fed) (frames_item reading (bytes_in payload.entry) fed) feeders.new (seen posts.old) (seen posts.new) failed.old failed.new }
     ensures each { (length posts.new ≡ length posts.old) × (length failed.new ≡ length failed.old) }
+    ensures room { vec_capacity feeders.new.feeders ≡ vec_capacity feeders.old.feeders }
 {
     if is_unread(reading) {
         miss(feeders, payload);

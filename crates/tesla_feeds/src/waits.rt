@@ -1,9 +1,10 @@
 //! Until when nothing is due of the streams of a list, and whether all keys are told.
 
-ghost use Rattle.std.specs.Prelude.{◌≡◌, List};
+ghost use Rattle.std.specs.Prelude.{◌≡◌, List, vec_capacity};
 ghost use Rattle.tesla_feed.specs.Steps.{noted};
 ghost use Rattle.tesla_feeds.specs.Events.{FeedsAll};
 ghost use Rattle.tesla_feeds.specs.Fed.{Fed, Part};
+ghost use Rattle.tesla_feeds.specs.Later.{are_past};
 ghost use Rattle.tesla_feeds.specs.Opening.{begins_by, some_begun, streams_fed, streams_of};
 ghost use Rattle.tesla_feeds.specs.Steps.{FeedParts, FeedsPart};
 ghost use Rattle.tesla_feeds.specs.Waits.{are_told, until_first, until_more, until_next};
@@ -52,9 +53,17 @@ impl Feeders {
         have_told_all(self.feeders.as_slice())
     }
 
+    /// Whether the last interval of each stream has ended by a reading.
+    pub fn are_past(&self, reading: u64) -> bool
+        ensures { result ≡ are_past (streams_fed self.now) reading }
+    {
+        are_past(self.feeders.as_slice(), reading)
+    }
+
     /// Makes the keys of the next interval of each stream, before it begins. Nothing is changed that the next calls answer.
     pub fn make_next<L: Ledger>(&mut self, steps: &mut Steps<L>)
-        ensures { (fed : Fed) → FeedsAll self.old fed → FeedsAll self.new fed }
+        ensures makes { (fed : Fed) → FeedsAll self.old fed → FeedsAll self.new fed }
+        ensures room { vec_capacity self.new.feeders ≡ vec_capacity self.old.feeders }
     {
         make_next(self.feeders.as_mut_slice(), steps);
     }
@@ -113,6 +122,15 @@ fn have_told_all(feeders: &[ListedFeeder]) -> bool
         return true;
     };
     feeder.feeder.has_disclosed_all() && have_told_all(behind)
+}
+
+fn are_past(feeders: &[ListedFeeder], reading: u64) -> bool
+    ensures { result ≡ are_past (streams_of feeders.now) reading }
+{
+    let Some((feeder, behind)) = feeders.split_first() else {
+        return true;
+    };
+    feeder.is_past(reading) && are_past(behind, reading)
 }
 
 fn make_next<L: Ledger>(feeders: &mut [ListedFeeder], steps: &mut Steps<L>)

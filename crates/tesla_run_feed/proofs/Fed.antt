@@ -17,8 +17,9 @@ use Rattle.tesla_feed.specs.Fed.{reading_of}
 use Rattle.tesla_feed.specs.Feed.{OpensAt, events_of, letter_of, rested_at}
 use Rattle.tesla_feeds.specs.Fed.{lasting}
 use Rattle.tesla_feeds.specs.Feeds.{ComesTo, Feeds, StopsEarly}
-use Rattle.tesla_feeds.specs.Notes.{Note, notes_of}
-use Rattle.tesla_feeds.specs.Opening.{first_lasts}
+use Rattle.tesla_feeds.specs.Later.{last_streams, letters_in}
+use Rattle.tesla_feeds.specs.Notes.{Note, all_counts, notes_of}
+use Rattle.tesla_feeds.specs.Opening.{first_lasts, opened_at, streams_fed}
 use Rattle.tesla_feeds.specs.declared.events.FeedsCounts.{FeedsCounts}
 use Rattle.tesla_feeds.specs.declared.feeding.FeedsEnd.{FeedsEnd}
 use Rattle.tesla_front.specs.OutcomeView.{OutcomeView, Failed}
@@ -41,15 +42,14 @@ use Rattle.tesla_relay.proofs.Mails.{faulty_told, unsent_on}
 use Rattle.tesla_relay.proofs.Openings.{none_of_opened, opens_new, opens_still, refused_not_all}
 use Rattle.tesla_relay.proofs.Stopped.{outcome_cause, memory_counts, not_all_counts}
 use Rattle.tesla_run_feed.specs.Arguments.{FeedArguments, IsFeedForm, files_of_feed, live_files, sources_of, status_files}
-use Rattle.tesla_run_feed.specs.Feeding.{EndsAs, FeedsLink, FeedsOrEnds, FindsEnd, FindsOver, HoldsStatus, LackSenders, SendPosts, TouchesLive, last_page, status_page}
+use Rattle.tesla_run_feed.specs.Feeding.{EndsAs, FeedsLink, FeedsOrEnds, FindsEnd, FindsOver, HoldsStatus, LackLater, LackSenders, LacksFirst, SendPosts, TouchesLive, behind_first, last_page, status_page}
 use Rattle.tesla_run_feed.specs.Lines.{outcome_with, streams_over}
-use Rattle.tesla_run_feed.specs.Listing.{AreRight, all_times, are_several}
+use Rattle.tesla_run_feed.specs.Listing.{IsFirstRight, all_times, are_several, is_right_stream}
 use Rattle.tesla_run_feed.specs.Steps.{FeedsFiles, FeedsReady, LacksSender, RefusesStatus, RunsLinked, TriesToFeed, WritesStatus}
 use Rattle.tesla_front.proofs.Behind.{failed_back, failed_prefix, opens_prefix}
 use Rattle.tesla_run_feed.proofs.Behind.{Behind, RefusedBehind, last_same, refused_behind, status_behind}
-use Rattle.tesla_run_feed.proofs.Ended.{end_read, ends_by, failed_either, no_open, read_end, write_end}
+use Rattle.tesla_run_feed.proofs.Ended.{IsNoFault, end_read, ends_by, failed_either, first_fault, lack_fault, lost_none, lost_of, no_open, read_end, write_end, written_is}
 use Rattle.tesla_run_feed.proofs.Mailed.{each_reported, faulty_marked, marked_faulty, names_kept, sends_posts}
-use Rattle.tesla_run_send.proofs.Sender.{no_sender_fault}
 use Rattle.tesla_sender.specs.Made.{Stream}
 
 -- what is opened behind the link
@@ -139,18 +139,12 @@ left_unheard wire left later missed now opened own left_is missed_is =
 
 -- ---- there was no sender, and the link was closed
 
--- why there are no senders is no fault but want of memory
-lack_fault : (streams : List Stream) (outcome : OutcomeView) (fault : Fault) → LackSenders streams outcome → (fault ≡ faults.NoMemory → ⊥) → outcome ≡ Failed fault → ⊥
-lack_fault [] outcome fault none other e = let memory : fault ≡ faults.NoMemory = cc in other memory
-lack_fault (stream ∷ streams) outcome fault (inl why) other e = no_sender_fault stream outcome fault why other e
-lack_fault (stream ∷ streams) outcome fault (inr (right, more)) other e = lack_fault streams outcome fault more other e
-
 -- no count rises
-lacks_counts : {hidden : Type 0} (streams : List Stream) (outcome : OutcomeView) (before now : Faults) → LackSenders streams outcome → now ≡ before → HasCausesBeside hidden before now (outcome ≡ Failed faults.Read) (outcome ≡ Failed faults.Write) (outcome ≡ Failed faults.Open)
+lacks_counts : {hidden : Type 0} (streams : List Stream) (outcome : OutcomeView) (before now : Faults) → LacksFirst streams outcome → now ≡ before → HasCausesBeside hidden before now (outcome ≡ Failed faults.Read) (outcome ≡ Failed faults.Write) (outcome ≡ Failed faults.Open)
 lacks_counts {hidden} streams outcome before now why same = causes_plain {hidden = hidden} before now (record {
-  reads = cause_none before.reads now.reads (ap (λ (f : Faults). f.reads) same) (lack_fault streams outcome faults.Read why (λ e. cc));
-  writes = cause_none before.writes now.writes (ap (λ (f : Faults). f.writes) same) (lack_fault streams outcome faults.Write why (λ e. cc));
-  openings = cause_none before.openings now.openings (ap (λ (f : Faults). f.openings) same) (lack_fault streams outcome faults.Open why (λ e. cc));
+  reads = cause_none before.reads now.reads (ap (λ (f : Faults). f.reads) same) (first_fault streams outcome faults.Read why (λ e. cc));
+  writes = cause_none before.writes now.writes (ap (λ (f : Faults). f.writes) same) (first_fault streams outcome faults.Write why (λ e. cc));
+  openings = cause_none before.openings now.openings (ap (λ (f : Faults). f.openings) same) (first_fault streams outcome faults.Open why (λ e. cc));
 })
 
 module _ (over : Bool) (streams : List Stream) (arguments : FeedArguments) (left : Option (List Letter)) (before linked tried closed now : Told) (outcome : OutcomeView) (link_opened : OpenedLink (before.live.wire arguments.link) left) (link_live : linked.live ≡ before.live) (link_counts : linked.faults ≡ before.faults) (link_opens : Opens (OfLink arguments.link ∷ []) 1 before linked) (posts : List PostSeen) (later : Option (List Letter)) (missed : ℕ)
@@ -282,7 +276,7 @@ module _ (over : Bool) (streams : List Stream) (arguments : FeedArguments) (left
 
   -- ---- all streams were over
 
-  module _ (opening : ℕ) (opens_at : OpensAt opening (clock_told before.live.readings before.live.made) ticking) (right : AreRight streams) (ended : lasting opening streams ≡ []) (none : posts ≡ []) (same : tried ≡ clocked) (unheard : (later ≡ left) × (missed ≡ 0)) where
+  module _ (opening : ℕ) (opens_at : OpensAt opening (clock_told before.live.readings before.live.made) ticking) (right : IsFirstRight streams) (ended : lasting opening streams ≡ []) (none : posts ≡ []) (same : tried ≡ clocked) (unheard : (later ≡ left) × (missed ≡ 0)) where
     over_found : FindsOver arguments streams before.live now.live streams_over
     over_found = record {
       unread = opens_at.unread;
@@ -308,7 +302,7 @@ module _ (over : Bool) (streams : List Stream) (arguments : FeedArguments) (left
 
   -- ---- there was no memory for the feed
 
-  fed_unheld : AreRight streams → posts ≡ [] → tried ≡ clocked → (later ≡ left) × (missed ≡ 0) → FeedsFiles over streams arguments before now (Failed faults.NoMemory)
+  fed_unheld : IsFirstRight streams → posts ≡ [] → tried ≡ clocked → (later ≡ left) × (missed ≡ 0) → FeedsFiles over streams arguments before now (Failed faults.NoMemory)
   fed_unheld right none same unheard = record {
     opened = 1;
     opens = all_opens 0 (none_opens none same);
@@ -328,7 +322,7 @@ module _ (over : Bool) (streams : List Stream) (arguments : FeedArguments) (left
 
   -- ---- the opening of a post was refused
 
-  module _ (right : AreRight streams) (fault : Fault) (posts_open : OpensPosts arguments.posts clocked tried [] posts (Err fault)) (unheard : (later ≡ left) × (missed ≡ 0)) where
+  module _ (right : IsFirstRight streams) (fault : Fault) (posts_open : OpensPosts arguments.posts clocked tried [] posts (Err fault)) (unheard : (later ≡ left) × (missed ≡ 0)) where
     refused_to : OpensTo arguments.posts posts clocked tried (Err fault)
     refused_to = opens_new arguments.posts clocked tried posts (Err fault) posts_open
 
@@ -364,7 +358,7 @@ module _ (over : Bool) (streams : List Stream) (arguments : FeedArguments) (left
 
   -- ---- all posts were opened
 
-  module _ (right : AreRight streams) (some : 1 ≤ length arguments.posts) (distinct : AreDistinct arguments.posts) (opening : ℕ) (opens_at : OpensAt opening (clock_told before.live.readings before.live.made) ticking) (lasts : first_lasts opening (lasting opening streams) ≡ true) (fresh : List PostSeen) (opened : Told) (posts_open : OpensPosts arguments.posts clocked opened [] fresh (Ok tt)) where
+  module _ (right : IsFirstRight streams) (some : 1 ≤ length arguments.posts) (distinct : AreDistinct arguments.posts) (opening : ℕ) (opens_at : OpensAt opening (clock_told before.live.readings before.live.made) ticking) (lasts : first_lasts opening (lasting opening streams) ≡ true) (fresh : List PostSeen) (opened : Told) (posts_open : OpensPosts arguments.posts clocked opened [] fresh (Ok tt)) where
     fed_to : OpensTo arguments.posts fresh clocked opened (Ok tt)
     fed_to = opens_new arguments.posts clocked opened fresh (Ok tt) posts_open
 
@@ -415,7 +409,7 @@ module _ (over : Bool) (streams : List Stream) (arguments : FeedArguments) (left
 
     -- ---- all were opened
 
-    module _ (end : FeedsEnd) (status_failed : Bool) (link_read : HasCause 0 missed (end.link_failed ≡ true)) (notes : List Note) (writes : WritesStatus arguments.status (all_times streams) opening end.counts opened tried status_failed notes) (names_are : map post_name posts ≡ arguments.posts) (marked : AnyFaulty posts → end.post_failed ≡ true) (faulty : end.post_failed ≡ true → AnyFaulty posts) where
+    module _ (end : FeedsEnd) (status_failed : Bool) (lack : OutcomeView) (no_fault : IsNoFault end.lacking lack) (link_read : HasCause 0 missed (end.link_failed ≡ true)) (notes : List Note) (writes : WritesStatus arguments.status (all_times streams) opening end.counts opened tried status_failed notes) (names_are : map post_name posts ≡ arguments.posts) (marked : AnyFaulty posts → end.post_failed ≡ true) (faulty : end.post_failed ≡ true → AnyFaulty posts) where
       fed_behind : Behind (map OfPost arguments.posts) arguments.status (all_times streams) opening end.counts opened tried status_failed notes
       fed_behind = status_behind (map OfPost arguments.posts) arguments.status (all_times streams) opening end.counts opened tried status_failed notes writes
 
@@ -445,13 +439,13 @@ module _ (over : Bool) (streams : List Stream) (arguments : FeedArguments) (left
       fed_any (inr status) = failed_back (map OfPost arguments.posts) (status_files arguments.status) now (fed_behind.any now all_pages status)
 
       -- the count of reads rose where the link failed, and that of writes where a post or STATUS did
-      fed_causes : HasCausesBeside ((outcome_with (are_several (all_times streams)) end status_failed ≡ Failed faults.Read) × AnyFailed (live_files arguments) now) opened.faults now.faults (outcome_with (are_several (all_times streams)) end status_failed ≡ Failed faults.Read) (outcome_with (are_several (all_times streams)) end status_failed ≡ Failed faults.Write) (outcome_with (are_several (all_times streams)) end status_failed ≡ Failed faults.Open)
+      fed_causes : HasCausesBeside ((outcome_with (are_several (all_times streams)) end status_failed lack ≡ Failed faults.Read) × AnyFailed (live_files arguments) now) opened.faults now.faults (outcome_with (are_several (all_times streams)) end status_failed lack ≡ Failed faults.Read) (outcome_with (are_several (all_times streams)) end status_failed lack ≡ Failed faults.Write) (outcome_with (are_several (all_times streams)) end status_failed lack ≡ Failed faults.Open)
       fed_causes =
           let write = end.post_failed || status_failed in
           let own = fed_behind.own in
-          let outcome = outcome_with (are_several (all_times streams)) end status_failed in
+          let outcome = outcome_with (are_several (all_times streams)) end status_failed lack in
           let source = causes_source {read = outcome ≡ Failed faults.Read} {write = ⊥} {opening = ⊥} closed.faults now.faults missed link_closed.counts link_read
-          (λ e. read_end (are_several (all_times streams)) end.link_failed write end.counts e) (λ e. end_read (are_several (all_times streams)) end.link_failed write end.counts e) (λ never. never) (λ never. never) in
+          (λ e. read_end (are_several (all_times streams)) end.link_failed write end.lacking lack end.counts no_fault e) (λ e. end_read (are_several (all_times streams)) end.link_failed write end.lacking lack end.counts e) (λ never. never) (λ never. never) in
           let reads : closed.faults.reads ≡ opened.faults.reads = closes.reads ∙ own.reads.still (λ never. never) in
           let writes_are : now.faults.writes ≡ closed.faults.writes = ap (λ (f : Faults). f.writes) link_closed.counts in
           let openings : now.faults.openings ≡ opened.faults.openings = ap (λ (f : Faults). f.openings) link_closed.counts ∙ closes.openings ∙ own.openings.still (λ never. never) in
@@ -462,18 +456,18 @@ module _ (over : Bool) (streams : List Stream) (arguments : FeedArguments) (left
             reads = subst (λ (n : ℕ). HasCause n now.faults.reads (outcome ≡ Failed faults.Read)) reads source.reads;
             writes = record {
               stays = cause.stays;
-              rose = λ e. cause.rose (fed_either (write_end (are_several (all_times streams)) end.link_failed write end.counts e));
+              rose = λ e. cause.rose (fed_either (write_end (are_several (all_times streams)) end.link_failed write end.lacking lack end.counts no_fault e));
               still = λ none clear. cause.still (λ either.
-                  elim (failed_either (are_several (all_times streams)) end.link_failed write end.counts (fed_failed either)) [
+                  elim (failed_either (are_several (all_times streams)) end.link_failed write end.lacking lack end.counts (fed_failed either)) [
                     | inl read ↦ clear (read, fed_any either)
                     | inr failed ↦ none failed
                   ]);
             };
-            openings = cause_none opened.faults.openings now.faults.openings openings (λ e. no_open (are_several (all_times streams)) end.link_failed write end.counts e);
+            openings = cause_none opened.faults.openings now.faults.openings openings (λ e. no_open (are_several (all_times streams)) end.link_failed write end.lacking lack end.counts no_fault e);
           }
 
       -- what was done with the link and the posts
-      fed_by : FeedsOrEnds over arguments streams before.live now.live (status_page arguments now) (outcome_with (are_several (all_times streams)) end status_failed) → FeedsFiles over streams arguments before now (outcome_with (are_several (all_times streams)) end status_failed)
+      fed_by : FeedsOrEnds over arguments streams before.live now.live (status_page arguments now) (outcome_with (are_several (all_times streams)) end status_failed lack) → FeedsFiles over streams arguments before now (outcome_with (are_several (all_times streams)) end status_failed lack)
       fed_by does =
           record {
             opened = suc (length (files_behind arguments));
@@ -483,10 +477,23 @@ module _ (over : Bool) (streams : List Stream) (arguments : FeedArguments) (left
             counts = causes_then before.faults opened.faults now.faults fed_counts fed_causes;
           }
 
-    module _ (end : FeedsEnd) (status_failed : Bool) (link_read : HasCause 0 missed (end.link_failed ≡ true)) (after : Option Ticking) where
+    module _ (many : ℕ) (front behind : List Stream) (behind_is : behind ≡ last_streams many (behind_first streams)) (streams_are : lasting opening streams ≡ front ++ behind)
+        (end : FeedsEnd) (status_failed : Bool) (lack : OutcomeView) (lacks : end.lacking ≡ true → LackSenders behind lack) (link_read : HasCause 0 missed (end.link_failed ≡ true)) (after : Option Ticking) where
+      -- where a sender was lacking
+      end_lacks : end.lacking ≡ true → LackLater streams opening lack
+      end_lacks e = record {
+        many = many;
+        front = front;
+        are = streams_are ∙ ap (λ (ss : List Stream). front ++ ss) behind_is;
+        why = subst (λ (ss : List Stream). LackSenders ss lack) behind_is (lacks e);
+      }
+
+      end_no_fault : IsNoFault end.lacking lack
+      end_no_fault e fault other is = lack_fault behind lack fault (lacks e) other is
+
       -- ---- the link was fed
 
-      module _ (feeds : Feeds (lasting opening streams) opening end left later ticking after fresh posts (WritesStatus arguments.status (all_times streams) opening end.counts opened tried status_failed)) where
+      module _ (feeds : Feeds is_right_stream (lasting opening streams) opening end left later ticking after fresh posts (WritesStatus arguments.status (all_times streams) opening end.counts opened tried status_failed)) where
         abbrev ran_notes : List Note
         ran_notes = notes_of (lasting opening streams) opening (map rested_at feeds.early ++ events_of feeds.heard feeds.rests)
 
@@ -502,17 +509,17 @@ module _ (over : Bool) (streams : List Stream) (arguments : FeedArguments) (left
         ran_posts : SendPosts feeds.made.frames arguments.posts now.live feeds.failed
         ran_posts =
             subst (λ (ns : List (List ℕ)). SendPosts feeds.made.frames ns now.live feeds.failed) ran_names
-            (sends_posts feeds.made.frames fresh posts feeds.failed now fed_to.fresh (fed_mails end status_failed link_read ran_notes feeds.noted ran_names ran_marked ran_faulty) feeds.posts_are)
+            (sends_posts feeds.made.frames fresh posts feeds.failed now fed_to.fresh (fed_mails end status_failed lack end_no_fault link_read ran_notes feeds.noted ran_names ran_marked ran_faulty) feeds.posts_are)
 
-        ran_clock : ReadWhere (opens_at.unread ++ opening ∷ feeds.early ++ feeds.begun ∷ map reading_of (events_of feeds.heard feeds.rests)) before.live.readings before.live.made
+        ran_clock : ReadWhere (opens_at.unread ++ opening ∷ feeds.early ++ feeds.begun ∷ map reading_of (events_of feeds.heard feeds.rests ++ feeds.lost)) before.live.readings before.live.made
         ran_clock =
-            let later : List ℕ = feeds.begun ∷ map reading_of (events_of feeds.heard feeds.rests) in
+            let later : List ℕ = feeds.begun ∷ map reading_of (events_of feeds.heard feeds.rests ++ feeds.lost) in
             read_where (opens_at.unread ++ opening ∷ feeds.early ++ later) before.live.readings before.live.made after
             (gives_all opens_at.unread opening feeds.early later (clock_told before.live.readings before.live.made) ticking after opens_at.gives feeds.gives)
 
-        ran_link : LeftWhere (map letter_of feeds.heard) (before.live.wire arguments.link) (now.live.left arguments.link)
+        ran_link : LeftWhere (map letter_of feeds.heard ++ letters_in feeds.lost) (before.live.wire arguments.link) (now.live.left arguments.link)
         ran_link =
-            let taken = map letter_of feeds.heard in
+            let taken = map letter_of feeds.heard ++ letters_in feeds.lost in
             subst (λ (r : Option Remainder). LeftWhere taken (before.live.wire arguments.link) r) (sym link_closed.own)
             (left_where taken (before.live.wire arguments.link) left later missed link_opened feeds.left_is)
 
@@ -523,12 +530,13 @@ module _ (over : Bool) (streams : List Stream) (arguments : FeedArguments) (left
             ∙ sym (length-map posts post_name) ∙ ap (λ (ns : List (List ℕ)). length ns) ran_names in
             subst (λ (n : ℕ). 1 ≤ n) (sym size) some
 
-        ran_ends : EndsAs (are_several (all_times streams)) (now.live.left arguments.link) feeds.made feeds.failed status_failed (outcome_with (are_several (all_times streams)) end status_failed)
+        ran_ends : EndsAs streams opening (now.live.left arguments.link) feeds.made feeds.lost feeds.failed status_failed (outcome_with (are_several (all_times streams)) end status_failed lack)
         ran_ends =
-            subst (λ (r : Option Remainder). EndsAs (are_several (all_times streams)) r feeds.made feeds.failed status_failed (outcome_with (are_several (all_times streams)) end status_failed)) (sym link_closed.own)
-            (ends_by (are_several (all_times streams)) end.link_failed (end.post_failed || status_failed) end.counts feeds.made feeds.failed status_failed later missed link_read ran_some feeds.keys_disclosed feeds.ended feeds.counts (ap (λ (b : Bool). b || status_failed) feeds.some_failed))
+            subst (λ (r : Option Remainder). EndsAs streams opening r feeds.made feeds.lost feeds.failed status_failed (outcome_with (are_several (all_times streams)) end status_failed lack)) (sym link_closed.own)
+            (ends_by streams opening end.link_failed (end.post_failed || status_failed) end.lacking lack end.counts feeds.made feeds.lost feeds.failed status_failed later missed link_read ran_some feeds.keys_disclosed feeds.ended
+            end_lacks (lost_none (lasting opening streams) opening end.lacking feeds.lost feeds.lost_is) feeds.counts (ap (λ (b : Bool). b || status_failed) feeds.some_failed))
 
-        ran_feeds : FeedsLink arguments streams before.live now.live (status_page arguments now) (outcome_with (are_several (all_times streams)) end status_failed)
+        ran_feeds : FeedsLink arguments streams before.live now.live (status_page arguments now) (outcome_with (are_several (all_times streams)) end status_failed lack)
         ran_feeds = record {
           unread = opens_at.unread;
           opening = opening;
@@ -536,8 +544,10 @@ module _ (over : Bool) (streams : List Stream) (arguments : FeedArguments) (left
           begun = feeds.begun;
           heard = feeds.heard;
           rests = feeds.rests;
+          lost = feeds.lost;
+          lost_is = lost_of streams opening end.lacking feeds.lost (λ e. (lack, end_lacks e)) feeds.lost_is;
           clock = ran_clock;
-          clock_made = all_made (fed_live end status_failed link_read ran_notes feeds.noted ran_names ran_marked ran_faulty);
+          clock_made = all_made (fed_live end status_failed lack end_no_fault link_read ran_notes feeds.noted ran_names ran_marked ran_faulty);
           missed = opens_at.missed;
           read = opens_at.read;
           lasts = lasts;
@@ -546,17 +556,18 @@ module _ (over : Bool) (streams : List Stream) (arguments : FeedArguments) (left
           link = ran_link;
           made = feeds.made;
           made_is = feeds.made_is;
+          used = feeds.used;
           failed = feeds.failed;
           posts = ran_posts;
           status_failed = status_failed;
           status = subst (λ (counts : FeedsCounts). HoldsStatus arguments.status (all_times streams) opening ran_notes counts status_failed (status_page arguments now)) feeds.counts
-              (fed_status end status_failed link_read ran_notes feeds.noted ran_names ran_marked ran_faulty);
+              (fed_status end status_failed lack end_no_fault link_read ran_notes feeds.noted ran_names ran_marked ran_faulty);
           needed = feeds.needed;
           ends = ran_ends;
         }
 
-        fed_all : FeedsFiles over streams arguments before now (outcome_with (are_several (all_times streams)) end status_failed)
-        fed_all = fed_by end status_failed link_read ran_notes feeds.noted ran_names ran_marked ran_faulty (inr ran_feeds)
+        fed_all : FeedsFiles over streams arguments before now (outcome_with (are_several (all_times streams)) end status_failed lack)
+        fed_all = fed_by end status_failed lack end_no_fault link_read ran_notes feeds.noted ran_names ran_marked ran_faulty (inr ran_feeds)
 
       -- ---- the run was asked to end
 
@@ -586,41 +597,42 @@ module _ (over : Bool) (streams : List Stream) (arguments : FeedArguments) (left
             read_where (opens_at.unread ++ opening ∷ stops.early) before.live.readings before.live.made after
             (subst (λ (rs : List ℕ). Gives rs told after) same (gives_both (opens_at.unread ++ opening ∷ []) stops.early told ticking after opens_at.gives stops.gives))
 
-        stopped_end : FindsEnd over arguments streams before.live now.live (status_page arguments now) (outcome_with (are_several (all_times streams)) end status_failed)
+        stopped_end : FindsEnd over arguments streams before.live now.live (status_page arguments now) (outcome_with (are_several (all_times streams)) end status_failed lack)
         stopped_end = record {
           asked = stops.asked;
           unread = opens_at.unread;
           opening = opening;
           early = stops.early;
           clock = stopped_clock;
-          clock_made = all_made (fed_live end status_failed link_read stopped_notes stops.noted stopped_names stopped_marked stopped_faulty);
+          clock_made = all_made (fed_live end status_failed lack end_no_fault link_read stopped_notes stops.noted stopped_names stopped_marked stopped_faulty);
           missed = opens_at.missed;
           read = opens_at.read;
           lasts = lasts;
           waits = stops.waits;
           unheard = all_unheard (stops.left_is, stopped_missed);
           unsent = subst (λ (ns : List (List ℕ)). AllByRecursion (λ name. IsUnsent (now.live.mail name)) ns) stopped_names
-              (all_unsent posts now stopped_fresh (fed_mails end status_failed link_read stopped_notes stops.noted stopped_names stopped_marked stopped_faulty));
+              (all_unsent posts now stopped_fresh (fed_mails end status_failed lack end_no_fault link_read stopped_notes stops.noted stopped_names stopped_marked stopped_faulty));
           status_failed = status_failed;
           status = subst (λ (counts : FeedsCounts). HoldsStatus arguments.status (all_times streams) opening stopped_notes counts status_failed (status_page arguments now)) (ap (λ (it : FeedsEnd). it.counts) stops.result_is)
-              (fed_status end status_failed link_read stopped_notes stops.noted stopped_names stopped_marked stopped_faulty);
-          outcome_is = ap (λ (it : FeedsEnd). outcome_with (are_several (all_times streams)) it status_failed) stops.result_is;
+              (fed_status end status_failed lack end_no_fault link_read stopped_notes stops.noted stopped_names stopped_marked stopped_faulty);
+          outcome_is = ap (λ (it : FeedsEnd). outcome_with (are_several (all_times streams)) it status_failed lack) stops.result_is
+              ∙ written_is (are_several (all_times streams)) false status_failed false lack (all_counts (opened_at opening (lasting opening streams))) refl refl;
         }
 
-        fed_stopped : FeedsFiles over streams arguments before now (outcome_with (are_several (all_times streams)) end status_failed)
-        fed_stopped = fed_by end status_failed link_read stopped_notes stops.noted stopped_names stopped_marked stopped_faulty (inl stopped_end)
+        fed_stopped : FeedsFiles over streams arguments before now (outcome_with (are_several (all_times streams)) end status_failed lack)
+        fed_stopped = fed_by end status_failed lack end_no_fault link_read stopped_notes stops.noted stopped_names stopped_marked stopped_faulty (inl stopped_end)
 
     -- ---- whatever was done with the link and the posts
 
-    fed_ready : (outcome : OutcomeView) → FeedsReady over (all_times streams) (lasting opening streams) opening arguments.status left later 0 missed ticking opened tried fresh posts outcome → FeedsFiles over streams arguments before now outcome
-    fed_ready outcome (inl lacks) =
+    fed_ready : (many : ℕ) (front behind : List Stream) → behind ≡ last_streams many (behind_first streams) → lasting opening streams ≡ front ++ behind → (outcome : OutcomeView) → FeedsReady over (all_times streams) (lasting opening streams) behind opening arguments.status left later 0 missed ticking opened tried fresh posts outcome → FeedsFiles over streams arguments before now outcome
+    fed_ready many front behind behind_is streams_are outcome (inl lacks) =
         subst (λ (c : OutcomeView). FeedsFiles over streams arguments before now c) (sym lacks.outcome_is) (fed_unstatused lacks.fault lacks.refuses lacks.unheard lacks.unsent)
-    fed_ready outcome (inr fed) =
-        subst (λ (c : OutcomeView). FeedsFiles over streams arguments before now c) (sym fed.outcome_is) (fed_comes fed.end fed.status_failed fed.read fed.fed.after fed.fed.comes) where
-          fed_comes : (end : FeedsEnd) (status_failed : Bool) (read : HasCause 0 missed (end.link_failed ≡ true)) (after : Option Ticking)
-              → ComesTo over (lasting opening streams) opening end left later ticking after fresh posts (WritesStatus arguments.status (all_times streams) opening end.counts opened tried status_failed) → FeedsFiles over streams arguments before now (outcome_with (are_several (all_times streams)) end status_failed)
-          fed_comes end status_failed read after (inl feeds) = fed_all end status_failed read after feeds
-          fed_comes end status_failed read after (inr stops) = fed_stopped end status_failed read after stops
+    fed_ready many front behind behind_is streams_are outcome (inr fed) =
+        subst (λ (c : OutcomeView). FeedsFiles over streams arguments before now c) (sym fed.outcome_is) (fed_comes fed.end fed.status_failed fed.lack fed.lacks fed.read fed.fed.after fed.fed.comes) where
+          fed_comes : (end : FeedsEnd) (status_failed : Bool) (lack : OutcomeView) (lacks : end.lacking ≡ true → LackSenders behind lack) (read : HasCause 0 missed (end.link_failed ≡ true)) (after : Option Ticking)
+              → ComesTo is_right_stream over (lasting opening streams) opening end left later ticking after fresh posts (WritesStatus arguments.status (all_times streams) opening end.counts opened tried status_failed) → FeedsFiles over streams arguments before now (outcome_with (are_several (all_times streams)) end status_failed lack)
+          fed_comes end status_failed lack lacks read after (inl feeds) = fed_all many front behind behind_is streams_are end status_failed lack lacks read after feeds
+          fed_comes end status_failed lack lacks read after (inr stops) = fed_stopped many front behind behind_is streams_are end status_failed lack lacks read after stops
 
 -- ---- what was tried, and closed
 
@@ -629,11 +641,12 @@ fed_tried : (over : Bool) (streams : List Stream) (arguments : FeedArguments) (l
 fed_tried over streams arguments left before linked now link_opened link_live link_counts link_opens posts tried closed later missed posts_closed link_closed some distinct outcome (inl (inl lacks, left_is, missed_is)) =
     fed_senderless over streams arguments left before linked tried closed now outcome link_opened link_live link_counts link_opens posts later missed posts_closed link_closed lacks left_is missed_is
 fed_tried over streams arguments left before linked now link_opened link_live link_counts link_opens posts tried closed later missed posts_closed link_closed some distinct outcome (inl (inr (right, inl ends), left_is, missed_is)) =
-    let opens = ends.opens.opens in
-    let makes = ends.opens.makes in
-    let at = opens_at_first over streams arguments left before linked tried now link_opened link_live link_counts link_opens ends.ticking makes posts tried closed later missed posts_closed link_closed opens.0 opens.1 in
+    let clocked = ends.opens in
+    let makes = clocked.makes in
+    let at = opens_at_first over streams arguments left before linked tried now link_opened link_live link_counts link_opens ends.ticking makes posts tried closed later missed posts_closed link_closed clocked.opening clocked.opens_at in
+    let ended : lasting clocked.opening streams ≡ [] = ap (lasting clocked.opening) clocked.streams_are ∙ clocked.opens in
     subst (λ (c : OutcomeView). FeedsFiles over streams arguments before now c) (sym ends.outcome_is)
-    (fed_over over streams arguments left before linked tried now link_opened link_live link_counts link_opens ends.ticking makes posts tried closed later missed posts_closed link_closed opens.0 at right opens.2 ends.none refl (left_is, missed_is))
+    (fed_over over streams arguments left before linked tried now link_opened link_live link_counts link_opens ends.ticking makes posts tried closed later missed posts_closed link_closed clocked.opening at right ended ends.none refl (left_is, missed_is))
 fed_tried over streams arguments left before linked now link_opened link_live link_counts link_opens posts tried closed later missed posts_closed link_closed some distinct outcome (inl (inr (right, inr (inl ends)), left_is, missed_is)) =
     subst (λ (c : OutcomeView). FeedsFiles over streams arguments before now c) (sym ends.outcome_is)
     (fed_unheld over streams arguments left before linked tried now link_opened link_live link_counts link_opens None ends.makes posts tried closed later missed posts_closed link_closed right ends.none refl (left_is, missed_is))
@@ -641,12 +654,19 @@ fed_tried over streams arguments left before linked now link_opened link_live li
     subst (λ (c : OutcomeView). FeedsFiles over streams arguments before now c) (sym refuses.outcome_is)
     (fed_refused over streams arguments left before linked refuses.opens.clocked now link_opened link_live link_counts link_opens refuses.ticking refuses.opens.opens.makes posts tried closed later missed posts_closed link_closed right refuses.fault refuses.opens.posts_open (left_is, missed_is))
 fed_tried over streams arguments left before linked now link_opened link_live link_counts link_opens posts tried closed later missed posts_closed link_closed some distinct outcome (inr (right, feeds)) =
-    let opens = feeds.opens.opens.opens in
-    let makes = feeds.opens.opens.makes in
+    let clocked = feeds.opens.opens in
+    let opens = clocked.opens in
+    let makes = clocked.makes in
     let opening = feeds.feed.opening in
-    let at = opens_at_first over streams arguments left before linked feeds.opens.clocked now link_opened link_live link_counts link_opens feeds.ticking makes posts tried closed later missed posts_closed link_closed opening opens.0 in
-    fed_ready over streams arguments left before linked feeds.opens.clocked now link_opened link_live link_counts link_opens feeds.ticking makes posts tried closed later missed posts_closed link_closed right some distinct opening at (subst (λ (ss : List Stream). first_lasts opening ss ≡ true) opens.1 opens.2.lasts) feeds.fresh feeds.opened feeds.opens.posts_open outcome
-    (subst (λ (ss : List Stream). FeedsReady over (all_times streams) ss opening arguments.status left later 0 missed feeds.ticking feeds.opened tried feeds.fresh posts outcome) opens.1 feeds.feeds)
+    let front = streams_fed feeds.feed.feeders in
+    let many = length feeds.feed.later.items in
+    let first_at : OpensAt opening (clock_told linked.live.readings linked.live.made) feeds.ticking = subst (λ (n : ℕ). OpensAt n (clock_told linked.live.readings linked.live.made) feeds.ticking) (sym opens.0) clocked.opens_at in
+    let at = opens_at_first over streams arguments left before linked feeds.opens.clocked now link_opened link_live link_counts link_opens feeds.ticking makes posts tried closed later missed posts_closed link_closed opening first_at in
+    let own : front ++ last_streams many (behind_first streams) ≡ lasting opening streams =
+    opens.1 ∙ ap (λ (n : ℕ). lasting n (clocked.first ∷ behind_first streams)) (sym opens.0) ∙ ap (λ (ss : List Stream). lasting opening ss) (sym clocked.streams_are) in
+    let all : front ++ feeds.behind ≡ lasting opening streams = ap (λ (ss : List Stream). front ++ ss) feeds.behind_is ∙ own in
+    fed_ready over streams arguments left before linked feeds.opens.clocked now link_opened link_live link_counts link_opens feeds.ticking makes posts tried closed later missed posts_closed link_closed right some distinct opening at (subst (λ (ss : List Stream). first_lasts opening ss ≡ true) own opens.2.lasts) feeds.fresh feeds.opened feeds.opens.posts_open many front feeds.behind feeds.behind_is (sym all) outcome
+    (subst (λ (ss : List Stream). FeedsReady over (all_times streams) ss feeds.behind opening arguments.status left later 0 missed feeds.ticking feeds.opened tried feeds.fresh posts outcome) all feeds.feeds)
 
 -- the link was opened, what follows was tried, and all was closed
 pub fed_linked : {A : Type 0} (over : Bool) (streams : List Stream) (arguments : FeedArguments) (words : List (List ℕ)) (it : A) (name : List ℕ) (names : List (List ℕ)) (left : Option (List Letter)) (before linked now : Told) (outcome : OutcomeView) → IsFeedForm arguments words → name ≡ arguments.link → names ≡ arguments.posts → OpenedLink (before.live.wire arguments.link) left → OpensLink {A = A} arguments.link (Ok it) before linked → RunsLinked over streams names arguments.status name left linked now outcome → FeedsFiles over streams arguments before now outcome

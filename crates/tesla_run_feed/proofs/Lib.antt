@@ -1,6 +1,7 @@
 mod Spelled
 mod Listed
 mod Opened
+mod Held
 mod Steps
 mod Ended
 mod Mailed

@@ -13,6 +13,7 @@ use Rattle.tesla_feeds.specs.declared.events.FeedsCounts.{FeedsCounts}
 use Rattle.tesla_feeds.specs.declared.feeding.FeedsEnd.{FeedsEnd}
 use Rattle.tesla_relay.specs.Posts.{PostSeen}
 use Rattle.tesla_run_feed.specs.Due.{HasWritten, IsCounted}
+use Rattle.tesla_run_feed.specs.Listing.{is_right_stream}
 use Rattle.tesla_run_feed.specs.Status.{HasAllLines, HasLines, end_line, has_line, line_text, time_line}
 use Rattle.tesla_run_feed.specs.Steps.{FeedsPosts}
 use Rattle.tesla_run_feed.specs.declared.line.SystemCounts.{SystemCounts}
@@ -55,7 +56,7 @@ module _ (gave : ℕ → Bool) (read_for : ℕ → List ℕ → ℕ → Bool) (s
     has_told = has_as times whole own_every every own_opening opening since since last last notes written faults failed (sym times_is) (sym every_is) (sym opening_is) refl refl has
 
     -- a note that has a line may be told
-    pub counted_next : (note : Note) → IsNoted gave read_for streams notes note → failed ≡ false → has_line own_every since note.reading ≡ true → (system : SystemCounts) → IsCounted gave read_for whole streams every written (time_line times system note)
+    pub counted_next : (note : Note) → IsNoted is_right_stream gave read_for streams notes note → failed ≡ false → has_line own_every since note.reading ≡ true → (system : SystemCounts) → IsCounted gave read_for whole streams every written (time_line times system note)
     counted_next note noted still due system = inl (record {
       opening = opening;
       opened = opened;
@@ -74,7 +75,7 @@ module _ (gave : ℕ → Bool) (read_for : ℕ → List ℕ → ℕ → Bool) (s
         subst (λ (t : Telling). HasAllLines t.schedules t.every t.opening notes counts later count is) by all
 
   -- the last line may be told
-  pub counted_last : (counts : FeedsCounts) → IsWholeGiven gave read_for streams counts (λ notes. HasLines times own_every own_opening since last notes written faults failed) → failed ≡ false → (system : SystemCounts)
+  pub counted_last : (counts : FeedsCounts) → IsWholeGiven is_right_stream gave read_for streams counts (λ notes. HasLines times own_every own_opening since last notes written faults failed) → failed ≡ false → (system : SystemCounts)
       → IsCounted gave read_for whole streams every written (end_line times system (record { reading = last; counts = counts }))
   counted_last counts given still system =
       let has = has_told _ given.noted in
@@ -88,6 +89,7 @@ module _ (gave : ℕ → Bool) (read_for : ℕ → List ℕ → ℕ → Bool) (s
           lasts = given.lasts;
           events = given.events;
           given = given.given;
+          used = given.used;
           noted = record {
             has = has_written whole every opening since last _ written faults failed still has;
             system = system;
@@ -101,30 +103,34 @@ module _ (gave : ℕ → Bool) (read_for : ℕ → List ℕ → ℕ → Bool) (s
 -- ---- behind a feed
 
 -- what was told of the counts, in other words
-pub whole_as : (gave : ℕ → Bool) (read_for : ℕ → List ℕ → ℕ → Bool) (streams : List Stream) (counts : FeedsCounts) (was is : List Note → Type 0) → ((notes : List Note) → was notes → is notes) → IsWholeGiven gave read_for streams counts was → IsWholeGiven gave read_for streams counts is
+pub whole_as : (gave : ℕ → Bool) (read_for : ℕ → List ℕ → ℕ → Bool) (streams : List Stream) (counts : FeedsCounts) (was is : List Note → Type 0) → ((notes : List Note) → was notes → is notes) → IsWholeGiven is_right_stream gave read_for streams counts was → IsWholeGiven is_right_stream gave read_for streams counts is
 whole_as gave read_for streams counts was is weaker whole = record {
   opening = whole.opening;
   opened = whole.opened;
   lasts = whole.lasts;
   events = whole.events;
   given = whole.given;
+  used = whole.used;
   noted = weaker _ whole.noted;
   counts_are = whole.counts_are;
 }
 
 comes_as : (over : Bool) (streams : List Stream) (opening : ℕ) (end : FeedsEnd) (left later : Option (List Letter)) (before after : Option Ticking) (posts posts_now : List PostSeen) (was is : List Note → Type 0) → ((notes : List Note) → was notes → is notes)
-    → ComesTo over streams opening end left later before after posts posts_now was → ComesTo over streams opening end left later before after posts posts_now is
+    → ComesTo is_right_stream over streams opening end left later before after posts posts_now was → ComesTo is_right_stream over streams opening end left later before after posts posts_now is
 comes_as over streams opening end left later before after posts posts_now was is weaker (inl feeds) = inl (record {
   early = feeds.early;
   begun = feeds.begun;
   heard = feeds.heard;
   rests = feeds.rests;
+  lost = feeds.lost;
   gives = feeds.gives;
+  lost_is = feeds.lost_is;
   waits = feeds.waits;
   begins = feeds.begins;
   left_is = feeds.left_is;
   made = feeds.made;
   made_is = feeds.made_is;
+  used = feeds.used;
   failed = feeds.failed;
   posts_are = feeds.posts_are;
   needed = feeds.needed;
@@ -146,7 +152,7 @@ comes_as over streams opening end left later before after posts posts_now was is
 })
 
 pub feeds_as : (over : Bool) (streams : List Stream) (opening : ℕ) (end : FeedsEnd) (left later : Option (List Letter)) (ticking : Option Ticking) (posts posts_now : List PostSeen) (was is : List Note → Type 0) → ((notes : List Note) → was notes → is notes)
-    → FeedsPosts over streams opening end left later ticking posts posts_now was → FeedsPosts over streams opening end left later ticking posts posts_now is
+    → FeedsPosts is_right_stream over streams opening end left later ticking posts posts_now was → FeedsPosts is_right_stream over streams opening end left later ticking posts posts_now is
 feeds_as over streams opening end left later ticking posts posts_now was is weaker fed =
     record { after = fed.after; comes = comes_as over streams opening end left later ticking fed.after posts posts_now was is weaker fed.comes }
 

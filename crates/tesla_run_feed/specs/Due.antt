@@ -11,17 +11,16 @@ use Rattle.tesla_front.specs.Openings.{files_told}
 use Rattle.tesla_relay.specs.Posts.{PostSeen}
 use Rattle.tesla_run_feed.specs.Arguments.{FeedArguments, IsFeedForm, StatusArguments, sources_of}
 use Rattle.tesla_run_feed.specs.Feeding.{AreSoundIn, pages_of}
-use Rattle.tesla_run_feed.specs.Listing.{AreRight, all_times, list_fault}
+use Rattle.tesla_run_feed.specs.Listing.{all_times, is_right_stream, list_fault}
 use Rattle.tesla_run_feed.specs.Status.{AreLinesOf, Line, end_line, has_line, last_reading, line_text, since_behind, time_line}
 use Rattle.tesla_run_feed.specs.declared.line.SystemCounts.{SystemCounts}
 use Rattle.tesla_sender.specs.Made.{Stream}
 
 -- ---- the streams
 
--- the desk tells these streams under the names of the setups and the seeds: they are sound, no seed is wrong, and they are in order
+-- the desk tells these streams under the names of the setups and the seeds: they are sound, and they are in order
 pub record AreListedIn (told : Told) (arguments : FeedArguments) (streams : List Stream) : Type 0 where
   pub found : AreSoundIn arguments.setups (pages_of (files_told told (sources_of arguments))) streams
-  pub right : AreRight streams
   pub fits : list_fault streams ≡ None
 
 -- the streams of the list but for those in front that were over at a reading that the clock gave
@@ -37,7 +36,7 @@ pub record AreLeft (gave : ℕ → Bool) (told : Told) (arguments : FeedArgument
 abbrev pub MaySendLasting : {P : Type 0} → (P → PostSeen) → (P → List ℕ → Bool) → (ℕ → Bool) → (ℕ → List ℕ → ℕ → Bool)
     → List (List ℕ) → List Stream → Type 0
 MaySendLasting seen may_send gave read_for names streams =
-    (from : ℕ) → gave from ≡ true → MaySendDue seen may_send gave read_for names (lasting from streams)
+    (from : ℕ) → gave from ≡ true → MaySendDue is_right_stream seen may_send gave read_for names (lasting from streams)
 
 -- a datagram is due at the post of this name, which tells to have sent these
 pub record IsFedFor (gave : ℕ → Bool) (read_for : ℕ → List ℕ → ℕ → Bool) (arguments : FeedArguments) (told : Told)
@@ -48,7 +47,7 @@ pub record IsFedFor (gave : ℕ → Bool) (read_for : ℕ → List ℕ → ℕ �
   pub streams : List Stream
   pub going : List Stream
   pub left : AreLeft gave told arguments streams going
-  pub due : IsDue gave read_for going sent datagram
+  pub due : IsDue is_right_stream gave read_for going sent datagram
 
 -- the same, told the words, which are the form of the command
 pub record IsFedFrom (gave : ℕ → Bool) (read_for : ℕ → List ℕ → ℕ → Bool) (words : List (List ℕ)) (told : Told)
@@ -72,7 +71,7 @@ pub record IsNextLine (gave : ℕ → Bool) (read_for : ℕ → List ℕ → ℕ
   pub before : List Note
   pub has : HasWritten times every opening before written
   pub note : Note
-  pub noted : IsNoted gave read_for streams before note
+  pub noted : IsNoted is_right_stream gave read_for streams before note
   pub due : has_line every (since_behind every opening before) note.reading ≡ true
   pub system : SystemCounts
   pub piece_is : piece ≡ time_line times system note
@@ -88,7 +87,7 @@ pub record IsLastLine (gave : ℕ → Bool) (read_for : ℕ → List ℕ → ℕ
   pub opening : ℕ
   pub opened : gave opening ≡ true
   pub counts : FeedsCounts
-  pub whole : IsWholeGiven gave read_for streams counts (EndsWith times every opening counts written piece)
+  pub whole : IsWholeGiven is_right_stream gave read_for streams counts (EndsWith times every opening counts written piece)
 
 -- the piece may come next, told the intervals of all streams of the list
 abbrev pub IsCounted : (ℕ → Bool) → (ℕ → List ℕ → ℕ → Bool) → List Times → List Stream → ℕ → Option (List ℕ) → List ℕ → Type 0

@@ -6,10 +6,11 @@ use Rattle.tesla_clock.specs.Schedule.{Times}
 use Rattle.tesla_desk.specs.Faults.{raised}
 use Rattle.tesla_desk.specs.Live.{Live, Remainder, LeavesAll, Mail}
 use Rattle.tesla_desk.specs.Outside.{Absent, Holds, Page, Told, Untold}
-use Rattle.tesla_feed.specs.Fed.{is_unread, reading_of}
+use Rattle.tesla_feed.specs.Fed.{Event, is_unread, reading_of}
 use Rattle.tesla_feed.specs.Feed.{Heard, received_of, events_of, has_failed, letter_of, rested_at}
 use Rattle.tesla_feeds.specs.Fed.{Fed, fed_all, lasting}
 use Rattle.tesla_feeds.specs.Feeds.{AreNeeded}
+use Rattle.tesla_feeds.specs.Later.{IsLostAt, are_right_where_used, last_streams, letters_in}
 use Rattle.tesla_feeds.specs.Notes.{Note, all_counts, notes_of}
 use Rattle.tesla_feeds.specs.Opening.{first_lasts, opened_at, some_begun}
 use Rattle.tesla_feeds.specs.Waits.{are_told}
@@ -27,8 +28,8 @@ use Rattle.tesla_relay.specs.Closed.{HoldsSent, IsUnsent}
 use Rattle.tesla_relay.specs.Counts.{IsSentCount}
 use Rattle.tesla_relay.specs.Links.{HasBroken, HasEnded, LeftWhere}
 use Rattle.tesla_run_feed.specs.Arguments.{FeedArguments, IsFeedForm, StatusArguments, files_of_feed, sources_of}
-use Rattle.tesla_run_feed.specs.Lines.{lines_of, outcome_by, streams_over}
-use Rattle.tesla_run_feed.specs.Listing.{AreRight, IsRight, all_times, are_several, list_fault, list_refused}
+use Rattle.tesla_run_feed.specs.Lines.{lines_of, outcome_written, streams_over}
+use Rattle.tesla_run_feed.specs.Listing.{IsFirstRight, IsRight, all_times, are_several, is_right_stream, list_fault, list_refused}
 use Rattle.tesla_run_feed.specs.declared.listing.ListFault.{ListFault}
 use Rattle.tesla_run_feed.specs.Status.{AreLinesOf, Line, end_line, last_reading, line_text}
 use Rattle.tesla_run_feed.specs.declared.line.SystemCounts.{SystemCounts}
@@ -97,10 +98,27 @@ abbrev pub LacksList : List (List ℕ) → List Page → ℕ → ℕ → Outcome
 LacksList names pages few opened outcome =
     ((opened ≡ 0) × (outcome ≡ Failed faults.NoMemory)) ⊎ LackSoundSeeds names pages opened outcome ⊎ AreNoList names pages opened few outcome
 
--- why there are no senders: the seeds of a stream give none, where those of each in front of it are right, or there was no memory
+-- why the first of these streams has no sender: its seeds give none, or there was no memory
+abbrev pub LacksFirst : List Stream → OutcomeView → Type 0
+LacksFirst [] outcome = ⊥
+LacksFirst (stream ∷ streams) outcome = IsNoSender stream outcome
+
+-- why not all of these streams have senders: the seeds of one give none, where those of each in front of it are right, or there was no memory
 abbrev pub LackSenders : List Stream → OutcomeView → Type 0
-LackSenders [] outcome = outcome ≡ Failed faults.NoMemory
+LackSenders [] outcome = ⊥
 LackSenders (stream ∷ streams) outcome = IsNoSender stream outcome ⊎ (IsRight stream × LackSenders streams outcome)
+
+-- those behind the first of these streams
+abbrev pub behind_first : List Stream → List Stream
+behind_first [] = []
+behind_first (stream ∷ streams) = streams
+
+-- not all streams behind the first one of the list have senders that aren't over at the opening and whose senders weren't there then: they are the last so many
+pub record LackLater (streams : List Stream) (opening : ℕ) (outcome : OutcomeView) : Type 0 where
+  pub many : ℕ
+  pub front : List Stream
+  pub are : lasting opening streams ≡ front ++ last_streams many (behind_first streams)
+  pub why : LackSenders (last_streams many (behind_first streams)) outcome
 
 -- ---- nothing was fed
 
@@ -110,12 +128,12 @@ pub record FindsNoLink (before now : Live) (linked opened : ℕ) (outcome : Outc
   pub same : now ≡ before
   pub cause : (outcome ≡ Failed faults.Open) ⊎ (outcome ≡ Failed faults.NoMemory)
 
--- the link was opened, and then not all senders: no letter left the link, no clock was made, and the mail under each name is as before
+-- the link was opened, and then not the sender of the first stream: no letter left the link, no clock was made, and the mail under each name is as before
 pub record FindsNoSender (arguments : FeedArguments) (streams : List Stream) (before now : Live) (outcome : OutcomeView) : Type 0 where
   pub unheard : LeavesAll (before.wire arguments.link) (now.left arguments.link)
   pub unsent : (name : List ℕ) → now.mail name ≡ before.mail name
   pub made : now.made ≡ before.made
-  pub why : LackSenders streams outcome
+  pub why : LacksFirst streams outcome
 
 -- the link was opened, and a post or STATUS wasn't, told the page of STATUS before and afterwards: no letter left the link, no post sent anything, that page is as before, and the next clock was made
 pub record FindsNoPost (arguments : FeedArguments) (before now : Live) (status status_now : Page) (outcome : OutcomeView) : Type 0 where
@@ -209,14 +227,37 @@ HaveAllFailed failed = list_all has_failed failed ≡ true
 abbrev pub IsAllDisclosed : Fed → Type 0
 IsAllDisclosed made = are_told made.parts ≡ true
 
--- how it ends, told whether there are several streams, which posts failed and whether STATUS did. The link has ended, and no post failed, nor STATUS: the lines tell the counts. Or the link failed, or else a post or STATUS did. In each case all is told before, unless all posts failed
-abbrev pub EndsAs : Bool → Option Remainder → Fed → List Bool → Bool → OutcomeView → Type 0
-EndsAs several remainder made failed status_failed (Done text) =
-    (text ≡ lines_of several (all_counts made)) × ((list_any has_failed failed || status_failed) ≡ false) × IsAllDisclosed made × HasEnded remainder
-EndsAs several remainder made failed status_failed (Failed faults.Read) = HasBroken remainder × (HaveAllFailed failed ⊎ IsAllDisclosed made)
-EndsAs several remainder made failed status_failed (Failed faults.Write) =
-    ((list_any has_failed failed || status_failed) ≡ true) × IsUnbroken remainder × (HaveAllFailed failed ⊎ (IsAllDisclosed made × HasEnded remainder))
-EndsAs several remainder made failed status_failed _ = ⊥
+-- not all later streams have senders, as some outcome tells
+abbrev pub IsOneLacking : List Stream → ℕ → Type 0
+IsOneLacking streams opening = (outcome : OutcomeView) × LackLater streams opening outcome
+
+-- nothing was lost; or, where not all later streams have senders, an event at whose reading one was needed
+abbrev pub AreLostOf : List Stream → ℕ → List Event → Type 0
+AreLostOf streams opening [] = Unit {0}
+AreLostOf streams opening (event ∷ []) = IsOneLacking streams opening × IsLostAt (lasting opening streams) opening (reading_of event)
+AreLostOf streams opening (event ∷ events) = ⊥
+
+abbrev pub IsOneLost : List Event → Type 0
+IsOneLost [] = ⊥
+IsOneLost (event ∷ events) = Unit {0}
+
+-- all was told before, unless all posts failed, or an event was lost
+abbrev pub IsToldUnless : Fed → List Event → List Bool → Type 0
+IsToldUnless made lost failed = HaveAllFailed failed ⊎ IsOneLost lost ⊎ IsAllDisclosed made
+
+-- the link has ended, unless all posts failed, or not all later streams have senders
+abbrev pub IsHeardUnless : List Stream → ℕ → Option Remainder → List Bool → Type 0
+IsHeardUnless streams opening remainder failed = HaveAllFailed failed ⊎ IsOneLacking streams opening ⊎ HasEnded remainder
+
+-- how it ends, told the streams of the list and the opening, what was lost, which posts failed and whether STATUS did. The link has ended, and no post failed, nor STATUS: the lines tell the counts. Or the link failed, or else a post or STATUS did, or else not all later streams have senders. In each case all is told before, unless all posts failed, or an event was lost
+abbrev pub EndsAs : List Stream → ℕ → Option Remainder → Fed → List Event → List Bool → Bool → OutcomeView → Type 0
+EndsAs streams opening remainder made lost failed status_failed (Done text) =
+    (text ≡ lines_of (are_several (all_times streams)) (all_counts made)) × (lost ≡ []) × ((list_any has_failed failed || status_failed) ≡ false) × IsAllDisclosed made × HasEnded remainder
+EndsAs streams opening remainder made lost failed status_failed (Failed faults.Read) = HasBroken remainder × IsToldUnless made lost failed
+EndsAs streams opening remainder made lost failed status_failed (Failed faults.Write) =
+    ((list_any has_failed failed || status_failed) ≡ true) × IsUnbroken remainder × IsToldUnless made lost failed × IsHeardUnless streams opening remainder failed
+EndsAs streams opening remainder made lost failed status_failed outcome =
+    LackLater streams opening outcome × ((list_any has_failed failed || status_failed) ≡ false) × IsUnbroken remainder × IsToldUnless made lost failed
 
 -- ---- a run
 
@@ -229,7 +270,10 @@ pub record FeedsLink (arguments : FeedArguments) (streams : List Stream) (before
   pub begun : ℕ
   pub heard : List Heard
   pub rests : List ℕ
-  pub clock : ReadWhere (unread ++ opening ∷ early ++ begun ∷ map reading_of (events_of heard rests)) before.readings before.made
+  -- at most one event more, of which nothing was made
+  pub lost : List Event
+  pub lost_is : AreLostOf streams opening lost
+  pub clock : ReadWhere (unread ++ opening ∷ early ++ begun ∷ map reading_of (events_of heard rests ++ lost)) before.readings before.made
   pub clock_made : now.made ≡ option_map raised before.made
   pub missed : AllByRecursion (λ reading. is_unread reading ≡ true) unread
   pub read : is_unread opening ≡ false
@@ -237,10 +281,12 @@ pub record FeedsLink (arguments : FeedArguments) (streams : List Stream) (before
   pub waits : AllByRecursion (λ reading. some_begun (lasting opening streams) opening reading ≡ false) early
   pub begins : some_begun (lasting opening streams) opening begun ≡ true
   -- what was heard left the link, in order
-  pub link : LeftWhere (map letter_of heard) (before.wire arguments.link) (now.left arguments.link)
+  pub link : LeftWhere (map letter_of heard ++ letters_in lost) (before.wire arguments.link) (now.left arguments.link)
   -- what was made of it, and what each post sent of that
   pub made : Fed
   pub made_is : made ≡ fed_all (lasting opening streams) opening (events_of heard rests)
+  -- of the streams of which something was made the seeds are right
+  pub used : are_right_where_used is_right_stream made ≡ true
   pub failed : List Bool
   pub posts : SendPosts made.frames arguments.posts now failed
   -- what STATUS holds: the lines of the notes of each reading before the first interval and of each event
@@ -248,7 +294,7 @@ pub record FeedsLink (arguments : FeedArguments) (streams : List Stream) (before
   pub status : HoldsStatus arguments.status (all_times streams) opening (notes_of (lasting opening streams) opening (map rested_at early ++ events_of heard rests)) (all_counts made) status_failed status_now
   -- why it rested behind the link, and how it ends
   pub needed : AreNeeded (fed_all (lasting opening streams) opening (map received_of heard)) rests
-  pub ends : EndsAs (are_several (all_times streams)) (now.left arguments.link) made failed status_failed outcome
+  pub ends : EndsAs streams opening (now.left arguments.link) made lost failed status_failed outcome
 
 -- the run was asked to end before the first interval of any stream had begun, as the gate may tell: no letter left the link, no post sent anything, and STATUS holds the lines of what was read by then
 pub record FindsEnd (over : Bool) (arguments : FeedArguments) (streams : List Stream) (before now : Live) (status_now : Page) (outcome : OutcomeView) : Type 0 where
@@ -267,7 +313,7 @@ pub record FindsEnd (over : Bool) (arguments : FeedArguments) (streams : List St
   pub unsent : AllByRecursion (λ name. IsUnsent (now.mail name)) arguments.posts
   pub status_failed : Bool
   pub status : HoldsStatus arguments.status (all_times streams) opening (notes_of (lasting opening streams) opening (map rested_at early)) (all_counts (opened_at opening (lasting opening streams))) status_failed status_now
-  pub outcome_is : outcome ≡ outcome_by (are_several (all_times streams)) false status_failed (all_counts (opened_at opening (lasting opening streams)))
+  pub outcome_is : outcome ≡ outcome_written (are_several (all_times streams)) status_failed (all_counts (opened_at opening (lasting opening streams)))
 
 -- all were opened, and the link was fed to the posts; or the run was asked to end before the first interval
 abbrev pub FeedsOrEnds : Bool → FeedArguments → List Stream → Live → Live → Page → OutcomeView → Type 0
@@ -278,23 +324,23 @@ FeedsOrEnds over arguments streams before now status_now outcome =
 abbrev pub linked_by : FeedArguments → ℕ
 linked_by arguments = length (sources_of arguments) + 1
 
--- what is done with the senders of the streams, told how many files were asked to be opened, and the page of STATUS before and afterwards: a post or STATUS wasn't opened, or there was no memory; or the link was the last of the files and all streams were over; or all were opened
+-- what is done with the streams once the first has its sender, told how many files were asked to be opened, and the page of STATUS before and afterwards: a post or STATUS wasn't opened, or there was no memory; or the link was the last of the files and all streams were over; or all were opened
 abbrev pub FeedsOrStops : Bool → FeedArguments → List Stream → ℕ → Live → Live → Page → Page → OutcomeView → Type 0
 FeedsOrStops over arguments streams opened before now status status_now outcome =
     FindsNoPost arguments before now status status_now outcome
     ⊎ ((opened ≡ linked_by arguments) × FindsOver arguments streams before now outcome)
     ⊎ ((opened ≡ length (files_of_feed arguments)) × FeedsOrEnds over arguments streams before now status_now outcome)
 
--- what is done with the streams: the link wasn't opened; or it was the last of the files, and not all have a sender; or all seeds are right, and what follows was done with the senders
+-- what is done with the streams: the link wasn't opened; or it was the last of the files, and the first stream has no sender; or its seeds are right, and what follows was done
 abbrev pub FeedsStreams : Bool → FeedArguments → List Stream → ℕ → Live → Live → Page → Page → OutcomeView → Type 0
 FeedsStreams over arguments streams opened before now status status_now outcome =
     FindsNoLink before now (linked_by arguments) opened outcome
     ⊎ ((opened ≡ linked_by arguments) × FindsNoSender arguments streams before now outcome)
-    ⊎ (AreRight streams × FeedsOrStops over arguments streams opened before now status status_now outcome)
+    ⊎ (IsFirstRight streams × FeedsOrStops over arguments streams opened before now status status_now outcome)
 
 -- ---- the command
 
--- the link was fed by the senders of a list of setups and seeds that were found, or nothing was
+-- the link was fed by senders of a list of setups and seeds that were found, or nothing was
 pub record FeedsWith (over : Bool) (arguments : FeedArguments) (files : List File) (before now : Live) (status status_now : Page) (opened : ℕ) (outcome : OutcomeView) : Type 0 where
   pub streams : List Stream
   pub found : AreSoundIn arguments.setups (pages_of files) streams

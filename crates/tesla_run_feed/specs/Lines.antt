@@ -32,15 +32,21 @@ abbrev pub lines_of : Bool → FeedsCounts → List ℕ
 lines_of several counts =
     sent_lines counts.feed ++ handover_line several counts.handovers ++ refused_lines counts.feed ++ unread_line counts.feed
 
--- what a feed came to, told whether there are several streams, whether the link failed, and whether a post or STATUS did
-abbrev pub outcome_by : Bool → Bool → Bool → FeedsCounts → OutcomeView
-outcome_by several true write_failed counts = Failed faults.Read
-outcome_by several false true counts = Failed faults.Write
-outcome_by several false false counts = Done (lines_of several counts)
+-- what a feed came to, told whether there are several streams, whether the link failed, whether a post or STATUS did, and whether the sender of a later stream was lacking, and what that comes to
+abbrev pub outcome_by : Bool → Bool → Bool → Bool → OutcomeView → FeedsCounts → OutcomeView
+outcome_by several true write_failed lacking lack counts = Failed faults.Read
+outcome_by several false true lacking lack counts = Failed faults.Write
+outcome_by several false false true lack counts = lack
+outcome_by several false false false lack counts = Done (lines_of several counts)
 
--- what a feed came to, told whether STATUS failed: a failed link, else a failed post or STATUS, else the lines
-abbrev pub outcome_with : Bool → FeedsEnd → Bool → OutcomeView
-outcome_with several end status_failed = outcome_by several end.link_failed (end.post_failed || status_failed) end.counts
+-- where the link didn't fail, and no sender was lacking
+abbrev pub outcome_written : Bool → Bool → FeedsCounts → OutcomeView
+outcome_written several true counts = Failed faults.Write
+outcome_written several false counts = Done (lines_of several counts)
+
+-- what a feed came to, told whether STATUS failed, and what a lacking sender comes to: a failed link, else a failed post or STATUS, else that, else the lines
+abbrev pub outcome_with : Bool → FeedsEnd → Bool → OutcomeView → OutcomeView
+outcome_with several end status_failed lack = outcome_by several end.link_failed (end.post_failed || status_failed) end.lacking lack end.counts
 
 -- what streams that are all over when their feed is opened come to: the setup is refused
 abbrev pub streams_over : OutcomeView

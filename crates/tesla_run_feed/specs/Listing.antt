@@ -1,5 +1,5 @@
 -- The streams of a list: how they are put together, and what is wrong with them as a list.
-use Rattle.std.specs.Prelude.{◌≡◌, ◌<◌, ◌≤◌, ℕ, ◌+◌, Bool, nat_lt, List, [], ◌∷◌, ◌++◌, length, map, Option, Some, None, codes, if◌then◌else◌}
+use Rattle.std.specs.Prelude.{◌≡◌, ◌<◌, ◌≤◌, ℕ, ◌+◌, Bool, true, false, nat_lt, List, [], ◌∷◌, ◌++◌, length, map, Option, Some, None, codes, if◌then◌else◌}
 use Rattle.std.specs.List.{AllByRecursion, list_any}
 use Rattle.std.specs.Str.{bytes_eq}
 use Rattle.tesla_base.specs.declared.names.Key.{Key}
@@ -52,12 +52,22 @@ HasSeeds stream = length stream.seeds ≡ length stream.setup.rows
 abbrev pub HaveSeeds : List Stream → Type 0
 HaveSeeds streams = AllByRecursion HasSeeds streams
 
--- the seeds of each of these streams give the keys of its setup
-abbrev pub IsRight : Stream → Type 0
-IsRight stream = wrong_line stream ≡ None
+-- no seed is wrong, told the line of the first one that is
+abbrev pub is_right_by : Option ℕ → Bool
+is_right_by None = true
+is_right_by (Some line) = false
 
-abbrev pub AreRight : List Stream → Type 0
-AreRight streams = AllByRecursion IsRight streams
+-- the seeds of a stream give the keys of its setup
+abbrev pub is_right_stream : Stream → Bool
+is_right_stream stream = is_right_by (wrong_line stream)
+
+abbrev pub IsRight : Stream → Type 0
+IsRight stream = is_right_stream stream ≡ true
+
+-- those of the first of these streams do, where there is one
+abbrev pub IsFirstRight : List Stream → Type 0
+IsFirstRight [] = Unit {0}
+IsFirstRight (stream ∷ streams) = IsRight stream
 
 -- ---- what is wrong with a list
 

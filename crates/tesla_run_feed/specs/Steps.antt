@@ -1,7 +1,8 @@
 -- What the inner steps of the command feed come to.
 use Rattle.std.specs.Prelude.{◌≡◌, ◌⊎◌, ℕ, ◌+◌, ◌*◌, Bool, true, false, Option, Some, None, List, [], ◌∷◌, ◌++◌, ◌≤◌, length, map, Result, Ok, Err}
-use Rattle.std.specs.List.{AllByRecursion}
+use Rattle.std.specs.List.{list_all}
 use Rattle.tesla_clock.specs.Schedule.{Times}
+use Rattle.tesla_commit.specs.Parts.{Parts}
 use Rattle.tesla_desk.specs.Clocks.{Ticking}
 use Rattle.tesla_base.specs.declared.names.Key.{Key}
 use Rattle.tesla_desk.specs.Faults.{Faults, HasCause, HasCauses, HasCausesBeside}
@@ -11,7 +12,12 @@ use Rattle.tesla_desk.specs.declared.desk.OpenRefusal.{OpenRefusal}
 use Rattle.tesla_desk.specs.declared.link.Letter.{Letter}
 use Rattle.tesla_feeds.specs.Feeds.{ComesTo}
 use Rattle.tesla_feeds.specs.Notes.{Note}
-use Rattle.tesla_feeds.specs.Opening.{AreListed, IsFresh, OpensFeeds, handover_listed, streams_fed, streams_listed}
+use Rattle.tesla_feed.specs.Due.{AreUnsent}
+use Rattle.tesla_feed.specs.Feed.{OpensAt}
+use Rattle.tesla_feeds.specs.Due.{IsWholeGiven, MayNoteAll, MaySendDue}
+use Rattle.tesla_feeds.specs.Later.{IsOpenFeed, OpensFeeds, last_streams}
+use Rattle.tesla_feeds.specs.Opening.{first_setup, streams_fed}
+use Rattle.tesla_feeds.specs.Steps.{HandsOn, HandsOver}
 use Rattle.tesla_feeds.specs.declared.events.FeedsCounts.{FeedsCounts}
 use Rattle.tesla_feeds.specs.declared.feeding.FeedsEnd.{FeedsEnd}
 use Rattle.tesla_feeds.specs.declared.listed.Handover.{Handover}
@@ -22,18 +28,21 @@ use Rattle.tesla_front.specs.OutcomeView.{OutcomeView, Failed}
 use Rattle.tesla_front.specs.Openings.{AnyFailed, Opens, files_told}
 use Rattle.tesla_front.specs.declared.fault.Fault.{Fault}
 use Rattle.tesla_front.specs.declared.fault.Fault.TheVariants as faults
+use Rattle.tesla_relay.specs.Opened.{post_name}
 use Rattle.tesla_relay.specs.Opening.{ClosesPosts, OpensPosts}
 use Rattle.tesla_relay.specs.Posts.{PostSeen}
 use Rattle.tesla_run_feed.specs.Arguments.{FeedArguments, StatusArguments, live_files, sources, sources_of}
-use Rattle.tesla_run_feed.specs.Feeding.{FeedsStreams, LackSenders, LacksList, LacksSoundSeeds, TouchesLive, pages_of, status_page, weak_seed}
+use Rattle.tesla_run_feed.specs.Feeding.{FeedsStreams, LackSenders, LacksFirst, LacksList, LacksSoundSeeds, TouchesLive, behind_first, pages_of, status_page, weak_seed}
 use Rattle.tesla_run_feed.specs.Lines.{outcome_with, streams_over}
-use Rattle.tesla_run_feed.specs.Listing.{AreRight, all_times, are_several, list_fault}
+use Rattle.tesla_run_feed.specs.Listing.{HaveSeeds, IsFirstRight, IsRight, all_times, are_several, is_right_stream, list_fault, streams_in}
 use Rattle.tesla_run_feed.specs.Status.{HasAllLines}
+use Rattle.tesla_run_feed.specs.declared.listing.SeededSetups.{SeededSetups}
 use Rattle.tesla_run_feed.specs.declared.telling.Telling.{Telling}
 use Rattle.tesla_run_send.specs.Sender.{ReadsStream}
 use Rattle.tesla_seeds.specs.Weak.{AreSound, IsFirstWeak}
 use Rattle.tesla_seeds.specs.declared.weak.WeakSeed.{WeakSeed}
 use Rattle.tesla_sender.specs.Made.{Stream}
+use Rattle.tesla_sender.specs.Stands.{Stands}
 
 -- ---- the seeds
 
@@ -96,32 +105,48 @@ pub record ReadsNoList (setups secrets : List (List ℕ)) (outcome : OutcomeView
 
 -- ---- the senders
 
--- a sender of each of these streams was put behind those that were before, with these handovers
-pub record PutsSenders (streams : List Stream) (handovers : List (Option Handover)) (first now : List ListedSender) : Type 0 where
-  pub added : List ListedSender
-  pub is : now ≡ first ++ added
-  pub fresh : AllByRecursion IsFresh added
-  pub streams_are : streams_listed added ≡ streams
-  pub handovers_are : map handover_listed added ≡ handovers
-  pub right : AreRight streams
+-- how the first stream of these setups hands over to the second
+abbrev pub HandsFirst : Option Handover → List Parts → Type 0
+HandsFirst handover [] = handover ≡ None
+HandsFirst handover (setup ∷ setups) = HandsOn handover setup (first_setup setups)
 
--- a sender of each of these streams, with its handover, and the intervals of each
-pub record AreSenders (streams : List Stream) (senders : List ListedSender) : Type 0 where
-  pub listed : AreListed senders
-  pub streams_are : streams_listed senders ≡ streams
-  pub right : AreRight streams
+-- the sender of the first of these streams was opened, and these are the setups and seeds of those behind it
+pub record OpensFirst (streams : List Stream) (first : ListedSender) (behind : SeededSetups) : Type 0 where
+  pub streams_are : streams ≡ first.sender.stream ∷ streams_in behind
+  pub fresh : Stands first.sender []
+  pub right : IsRight first.sender.stream
+  pub hands : HandsOver first.handover first.sender.stream (first_setup behind.setups.items)
+  pub each : length behind.seeds.items ≡ length behind.setups.items
+  pub have : HaveSeeds (streams_in behind)
+  pub few : length (streams_in behind) ≤ 16
+
+-- the streams of a feed that is open, told the setups and seeds of those whose senders aren't there
+abbrev pub streams_ready : OpenFeeds → SeededSetups → List Stream
+streams_ready opened later = streams_fed opened.feeders ++ streams_in later
+
+-- a feed is open, the seeds of the streams that have senders are right, and each of the others has seeds
+pub record IsReady (opened : OpenFeeds) (later : SeededSetups) : Type 0 where
+  pub is_open : IsOpenFeed opened (streams_in later)
+  pub right : list_all is_right_stream (streams_fed opened.feeders) ≡ true
+  pub each : length later.seeds.items ≡ length later.setups.items
+  pub have : HaveSeeds (streams_in later)
+  pub few : length (streams_in later) ≤ 16
 
 -- ---- the opening
 
--- not all senders of the streams were opened, and nothing else was done
+-- the sender of the first of the streams wasn't opened, and nothing else was done
 pub record LacksSender (streams : List Stream) (posts : List PostSeen) (before now : Told) (outcome : OutcomeView) : Type 0 where
   pub none : posts ≡ []
   pub same : now ≡ before
-  pub why : LackSenders streams outcome
+  pub why : LacksFirst streams outcome
 
--- a clock was made that tells this by now, and a feed of the streams was opened with it, or all are over
+-- a clock was made that tells this by now, and at its first reading that could be had a feed of the streams was opened, or all are over
 pub record OpensByClock (streams : List Stream) (feed : Option OpenFeeds) (ticking : Option Ticking) (before now : Told) : Type 0 where
-  pub opens : OpensFeeds streams feed (clock_told before.live.readings before.live.made) ticking
+  pub opening : ℕ
+  pub opens_at : OpensAt opening (clock_told before.live.readings before.live.made) ticking
+  pub first : Stream
+  pub streams_are : streams ≡ first ∷ behind_first streams
+  pub opens : OpensFeeds opening first (behind_first streams) feed
   pub makes : MakesClock before now
 
 -- a feed was opened so, and then a post under each of the names, until an opening was refused
@@ -129,6 +154,12 @@ pub record OpensFeeding (streams : List Stream) (names : List (List ℕ)) (feed 
   pub clocked : Told
   pub opens : OpensByClock streams (Some feed) ticking before clocked
   pub posts_open : OpensPosts names clocked now [] posts result
+
+-- the same, with the setups and seeds of the streams whose senders weren't there
+pub record OpensReady (streams : List Stream) (names : List (List ℕ)) (feed : OpenFeeds) (later : SeededSetups) (ticking : Option Ticking) (posts : List PostSeen) (before now : Told) : Type 0 where
+  pub opens : OpensFeeding streams names feed ticking posts (Ok tt) before now
+  pub later_is : streams_in later ≡ last_streams (length feed.later.items) (behind_first streams)
+  pub ready : IsReady feed later
 
 -- all streams were over: no post was opened
 pub record StopsOver (streams : List Stream) (posts : List PostSeen) (before now : Told) (outcome : OutcomeView) : Type 0 where
@@ -151,15 +182,15 @@ pub record RefusesPost (streams : List Stream) (names : List (List ℕ)) (posts 
   pub opens : OpensFeeding streams names feed ticking posts (Err fault) before now
   pub outcome_is : outcome ≡ Failed fault
 
--- with the senders of the streams not all was opened
+-- with the sender of the first stream not all was opened
 abbrev pub OpensNoFeeding : List Stream → List (List ℕ) → List PostSeen → Told → Told → OutcomeView → Type 0
 OpensNoFeeding streams names posts before now outcome =
     StopsOver streams posts before now outcome ⊎ StopsRoomless posts before now outcome ⊎ RefusesPost streams names posts before now outcome
 
--- not all streams have a sender; or all have, since the seeds are right, and not all was opened
+-- the first stream has no sender; or it has, since its seeds are right, and not all was opened
 abbrev pub IsUnready : List Stream → List (List ℕ) → List PostSeen → Told → Told → OutcomeView → Type 0
 IsUnready streams names posts before now outcome =
-    LacksSender streams posts before now outcome ⊎ (AreRight streams × OpensNoFeeding streams names posts before now outcome)
+    LacksSender streams posts before now outcome ⊎ (IsFirstRight streams × OpensNoFeeding streams names posts before now outcome)
 
 -- ---- STATUS
 
@@ -188,18 +219,37 @@ WritesStatus (Some status) times opening counts before now failed notes = Writes
 
 -- ---- the link and the posts
 
--- an open link was fed to open posts, with a clock that told this before, or the run was asked to end; this was told of the counts
-pub record FeedsPosts (over : Bool) (streams : List Stream) (opening : ℕ) (end : FeedsEnd) (left later : Option (List Letter)) (ticking : Option Ticking) (posts posts_now : List PostSeen) (was_told : List Note → Type 0) : Type 0 where
+-- an open link was fed to open posts, told which seeds are right, with a clock that told this before, or the run was asked to end; this was told of the counts
+pub record FeedsPosts (right : Stream → Bool) (over : Bool) (streams : List Stream) (opening : ℕ) (end : FeedsEnd) (left later : Option (List Letter)) (ticking : Option Ticking) (posts posts_now : List PostSeen) (was_told : List Note → Type 0) : Type 0 where
   pub after : Option Ticking
-  pub comes : ComesTo over streams opening end left later ticking after posts posts_now was_told
+  pub comes : ComesTo right over streams opening end left later ticking after posts posts_now was_told
 
--- that, and STATUS was written meanwhile, told the intervals of all streams of the list
-pub record FeedsCounted (over : Bool) (times : List Times) (streams : List Stream) (opening : ℕ) (status : Option StatusArguments) (left later : Option (List Letter)) (missed missed_now : ℕ) (ticking : Option Ticking) (before now : Told) (posts posts_now : List PostSeen) (outcome : OutcomeView) : Type 0 where
+-- what is known before a feed that was opened is fed to open posts, told the streams whose senders aren't there
+pub record MayFeed {P N : Type 0} (right : Stream → Bool) (seen : P → PostSeen) (may_send : P → List ℕ → Bool) (was_told : N → List Note → Type 0) (may_note : N → Note → Type 0) (gave : ℕ → Bool) (read_for : ℕ → List ℕ → ℕ → Bool) (opened : OpenFeeds) (left : List Stream) (posts : List P) (notes : N) : Type 0 where
+  pub is_open : IsOpenFeed opened left
+  pub right_first : list_all right (streams_fed opened.feeders) ≡ true
+  pub few : length posts ≤ 32
+  pub given : gave opened.opening ≡ true
+  pub unsent : AreUnsent (map seen posts)
+  pub due : MaySendDue right seen may_send gave read_for (map post_name (map seen posts)) (streams_fed opened.feeders ++ left)
+  pub untold : was_told notes []
+  pub noting : MayNoteAll right was_told may_note gave read_for (streams_fed opened.feeders ++ left)
+
+-- what is known afterwards
+pub record FeedsHeld (right : Stream → Bool) (over : Bool) (gave : ℕ → Bool) (read_for : ℕ → List ℕ → ℕ → Bool) (opened : OpenFeeds) (behind : List Stream) (end : FeedsEnd) (left later : Option (List Letter)) (ticking : Option Ticking) (posts posts_now : List PostSeen) (was_told : List Note → Type 0) : Type 0 where
+  pub fed : FeedsPosts right over (streams_fed opened.feeders ++ behind) opened.opening end left later ticking posts posts_now was_told
+  pub given : IsWholeGiven right gave read_for (streams_fed opened.feeders ++ behind) end.counts was_told
+
+-- that, and STATUS was written meanwhile, told the intervals of all streams of the list, and the streams whose senders weren't there at first
+pub record FeedsCounted (over : Bool) (times : List Times) (streams behind : List Stream) (opening : ℕ) (status : Option StatusArguments) (left later : Option (List Letter)) (missed missed_now : ℕ) (ticking : Option Ticking) (before now : Told) (posts posts_now : List PostSeen) (outcome : OutcomeView) : Type 0 where
   pub end : FeedsEnd
   pub status_failed : Bool
-  pub fed : FeedsPosts over streams opening end left later ticking posts posts_now (WritesStatus status times opening end.counts before now status_failed)
+  pub fed : FeedsPosts is_right_stream over streams opening end left later ticking posts posts_now (WritesStatus status times opening end.counts before now status_failed)
   pub read : HasCause missed missed_now (end.link_failed ≡ true)
-  pub outcome_is : outcome ≡ outcome_with (are_several times) end status_failed
+  -- what a lacking sender comes to
+  pub lack : OutcomeView
+  pub lacks : end.lacking ≡ true → LackSenders behind lack
+  pub outcome_is : outcome ≡ outcome_with (are_several times) end status_failed lack
 
 -- STATUS wasn't opened, and the link and the posts are as before
 pub record LacksStatus (status : Option StatusArguments) (left later : Option (List Letter)) (missed missed_now : ℕ) (before now : Told) (posts posts_now : List PostSeen) (outcome : OutcomeView) : Type 0 where
@@ -210,10 +260,10 @@ pub record LacksStatus (status : Option StatusArguments) (left later : Option (L
   pub outcome_is : outcome ≡ Failed fault
 
 -- what is done with a link and posts that are open
-abbrev pub FeedsReady : Bool → List Times → List Stream → ℕ → Option StatusArguments → Option (List Letter) → Option (List Letter) → ℕ → ℕ → Option Ticking → Told → Told → List PostSeen → List PostSeen → OutcomeView → Type 0
-FeedsReady over times streams opening status left later missed missed_now ticking before now posts posts_now outcome =
+abbrev pub FeedsReady : Bool → List Times → List Stream → List Stream → ℕ → Option StatusArguments → Option (List Letter) → Option (List Letter) → ℕ → ℕ → Option Ticking → Told → Told → List PostSeen → List PostSeen → OutcomeView → Type 0
+FeedsReady over times streams behind opening status left later missed missed_now ticking before now posts posts_now outcome =
     LacksStatus status left later missed missed_now before now posts posts_now outcome
-    ⊎ FeedsCounted over times streams opening status left later missed missed_now ticking before now posts posts_now outcome
+    ⊎ FeedsCounted over times streams behind opening status left later missed missed_now ticking before now posts posts_now outcome
 
 -- the posts were opened, and that was done
 pub record FeedsOpen (over : Bool) (streams : List Stream) (names : List (List ℕ)) (status : Option StatusArguments) (left later : Option (List Letter)) (missed missed_now : ℕ) (before now : Told) (posts : List PostSeen) (outcome : OutcomeView) : Type 0 where
@@ -222,13 +272,16 @@ pub record FeedsOpen (over : Bool) (streams : List Stream) (names : List (List �
   pub fresh : List PostSeen
   pub opened : Told
   pub opens : OpensFeeding streams names feed ticking fresh (Ok tt) before opened
-  pub feeds : FeedsReady over (all_times streams) (streams_fed feed.feeders) feed.opening status left later missed missed_now ticking opened now fresh posts outcome
+  -- the streams whose senders weren't there
+  pub behind : List Stream
+  pub behind_is : behind ≡ last_streams (length feed.later.items) (behind_first streams)
+  pub feeds : FeedsReady over (all_times streams) (streams_fed feed.feeders ++ behind) behind feed.opening status left later missed missed_now ticking opened now fresh posts outcome
 
--- that, and all seeds are right; or not all posts were opened, and the link is as before
+-- that, and the seeds of the first stream are right; or not all posts were opened, and the link is as before
 abbrev pub TriesToFeed : Bool → List Stream → List (List ℕ) → Option StatusArguments → Option (List Letter) → Option (List Letter) → ℕ → ℕ → Told → Told → List PostSeen → OutcomeView → Type 0
 TriesToFeed over streams names status left later missed missed_now before now posts outcome =
     (IsUnready streams names posts before now outcome × (later ≡ left) × (missed_now ≡ missed))
-    ⊎ (AreRight streams × FeedsOpen over streams names status left later missed missed_now before now posts outcome)
+    ⊎ (IsFirstRight streams × FeedsOpen over streams names status left later missed missed_now before now posts outcome)
 
 -- and then all was closed, the posts first
 pub record RunsLinked (over : Bool) (streams : List Stream) (names : List (List ℕ)) (status : Option StatusArguments) (link : List ℕ) (left : Option (List Letter)) (old new : Told) (outcome : OutcomeView) : Type 0 where

@@ -25,7 +25,8 @@ pub const FEED: FormText = FormText {
     each of which begins at the end of the one before or later; a message is one
     of the first stream that hasn't ended, and each stream hands over to the next
     one, which is counted too
-    SECRETS: as many names of their seeds, in the same order
+    SECRETS: as many names of their seeds, in the same order; a wrong seed of a
+    later stream is told while the feed runs, and ends it
     LINK: ADDRESS:PORT/QUIETS; the link ends after so many tenths of a second in
     a row with no datagram, 0 for never
     POSTS: ADDRESS:PORT, 1 to 32 of them with a comma between two, no two the

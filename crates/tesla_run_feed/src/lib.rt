@@ -2,9 +2,11 @@
 #![tactic(auto)]
 
 mod arguments;
+mod beside;
 mod chains;
 mod counted;
 mod form;
+mod later;
 mod line;
 mod lines;
 mod listing;

@@ -30,16 +30,25 @@ fn lines_of(several: bool, counts: FeedsCounts) -> Lines
     lines
 }
 
-/// What a feed came to, told whether there are several streams and whether STATUS failed: `Failed` with `Read` where the link failed, else with `Write` where
-/// a post or STATUS did, and else the lines of the counts. It takes no memory.
-pub fn lines_after(several: bool, end: FeedsEnd, status_failed: bool) -> Result<Lines, Stop>
-    ensures { result_view result ≡ outcome_with several end status_failed }
+/// What a feed came to, told whether there are several streams, whether STATUS failed, and what a lacking sender comes to: `Failed`
+/// with `Read` where the link failed, else with `Write` where a post or STATUS did, else what a sender comes to that was lacking, and
+/// else the lines of the counts. It takes no memory.
+pub fn lines_after(
+    several: bool,
+    end: FeedsEnd,
+    status_failed: bool,
+    lack: Stop,
+) -> Result<Lines, Stop>
+    ensures { result_view result ≡ outcome_with several end status_failed (stop_view lack) }
 {
     if end.link_failed {
         return Err(Stop::Failed(Fault::Read));
     }
     if end.post_failed || status_failed {
         return Err(Stop::Failed(Fault::Write));
+    }
+    if end.lacking {
+        return Err(lack);
     }
     Ok(lines_of(several, end.counts))
 }

@@ -1,59 +1,69 @@
 //! The senders of a list of streams.
 
-ghost use Rattle.std.specs.Prelude.{◌≡◌, ◌+◌, ◌++◌, ◌≤◌, [], IfErr, IfOk, length, map, vec_capacity};
-ghost use Rattle.tesla_feeds.specs.Opening.{AreHandovers};
+ghost use Rattle.std.specs.Prelude.{◌≡◌, ◌+◌, ◌∷◌, ◌++◌, ◌≤◌, [], IfErr, IfOk, drop, length, map, vec_capacity};
+ghost use Rattle.tesla_feeds.specs.Later.{last_streams};
 ghost use Rattle.tesla_front.specs.OutcomeView.{stop_view};
-ghost use Rattle.tesla_run_feed.specs.Feeding.{LackSenders};
+ghost use Rattle.tesla_run_feed.specs.Feeding.{LackSenders, LacksFirst};
 ghost use Rattle.tesla_run_feed.specs.Listing.{HaveSeeds, IsRight, all_times, streams_in, times_in};
-ghost use Rattle.tesla_run_feed.specs.Steps.{AreSenders, PutsSenders};
+ghost use Rattle.tesla_run_feed.specs.Steps.{HandsFirst, OpensFirst};
 ghost use Rattle.tesla_run_send.specs.Sender.{IsNoSender, stream_in};
 ghost use Rattle.tesla_sender.specs.Stands.{Stands};
 
 use crate::chains::open_side_by_side;
+use crate::later::{Later, Shared};
 use crate::listing::SeededSetups;
 use std::alloc::Global;
+use std::sync::Wait;
 use std::thread::Threads;
 use tesla_base::NoMemory;
 use tesla_clock::Schedule;
 use tesla_commit::Setup;
-use tesla_feeds::{Handover, ListedSender, handovers};
+use tesla_feeds::{Handover, ListedSender};
 use tesla_front::{Fault, Stop};
 use tesla_run_send::{SeededSetup, no_sender};
 use tesla_sender::Sender;
 
-/// The senders of a list of streams, each with its handover, and the intervals of each stream.
+/// What senders are opened with: memory, and the setups and seeds of their streams.
 #[derive(Drop)]
-pub struct ListedSenders {
-    pub senders: Vec<ListedSender>,
+pub struct ListParts {
+    pub alloc: Global,
+    pub list: SeededSetups,
+}
+
+/// The sender of the first stream of a list, the setups and seeds of those behind it, and the intervals of each stream.
+#[derive(Drop)]
+pub struct FirstSender {
+    pub first: ListedSender,
+    pub behind: ListParts,
     pub schedules: Vec<Schedule>,
 }
 
-/// Opens a sender of each of these streams, one after another; the chains of each are opened side by side.
+/// Opens the sender of the first of these streams; its chains are opened side by side.
 ///
-/// `Refused` with the line of the first seed that doesn't give the key of its setup; `Failed` with `NoMemory`.
-pub fn open_senders<R: Threads + Sync>(
-    rt: &R,
-    alloc: Global,
-    mut list: SeededSetups,
-) -> Result<ListedSenders, Stop>
-    requires each { length list.seeds.items ≡ length list.setups.items }
-    requires have { HaveSeeds (streams_in list) }
-    ensures senders { IfOk result (λ it. AreSenders (streams_in list) it.senders.items) }
-    ensures schedules { IfOk result (λ it. it.schedules.items ≡ all_times (streams_in list)) }
-    ensures refused { IfErr result (λ stop. LackSenders (streams_in list) (stop_view stop)) }
+/// `Refused` with the line of the first of its seeds that doesn't give the key of its setup; `Failed` with `NoMemory`.
+pub fn open_first<R: Threads + Sync>(rt: &R, parts: ListParts) -> Result<FirstSender, Stop>
+    requires some { 1 ≤ length parts.list.setups.items }
+    requires size { length parts.list.setups.items ≤ 16 }
+    requires each { length parts.list.seeds.items ≡ length parts.list.setups.items }
+    requires have { HaveSeeds (streams_in parts.list) }
+    ensures first { IfOk result (λ it. OpensFirst (streams_in parts.list) it.first it.behind.list) }
+    ensures schedules { IfOk result (λ it. it.schedules.items ≡ all_times (streams_in parts.list)) }
+    ensures refused { IfErr result (λ stop. LacksFirst (streams_in parts.list) (stop_view stop)) }
 {
-    let count = list.setups.len();
+    let ListParts { alloc, mut list } = parts;
     let Ok(schedules) = schedules_of(alloc, list.setups.as_slice()) else {
         return Err(Stop::Failed(Fault::NoMemory));
     };
-    let Ok(mut handovers) = handovers(alloc, list.setups.as_slice()) else {
+    let Ok(handover) = first_handover(alloc, list.setups.as_slice()) else {
         return Err(Stop::Failed(Fault::NoMemory));
     };
-    let Ok(mut senders) = Vec::with_capacity(alloc, count) else {
-        return Err(Stop::Failed(Fault::NoMemory));
-    };
-    put_senders(rt, alloc, &mut list, &mut handovers, &mut senders)?;
-    Ok(ListedSenders { senders, schedules })
+    let seeded = take_first(&mut list);
+    let sender = sender_of(rt, alloc, seeded)?;
+    Ok(FirstSender {
+        first: ListedSender { sender, handover },
+        behind: ListParts { alloc, list },
+        schedules,
+    })
 }
 
 // The intervals of each of these streams.
@@ -76,32 +86,77 @@ fn put_schedules(setups: &[Setup], schedules: &mut Vec<Schedule>)
     }
 }
 
-// Opens a sender of each of these streams, and puts it with its handover behind those that are there.
-fn put_senders<R: Threads + Sync>(
+// How the first of these streams hands over to the second, where there are two.
+fn first_handover(alloc: Global, setups: &[Setup]) -> Result<Option<Handover>, NoMemory>
+    ensures { IfOk result (λ handover. HandsFirst handover setups.now) }
+{
+    let Some((setup, behind)) = setups.split_first() else {
+        return Ok(None);
+    };
+    let handover = match behind.first() {
+        Some(next) => Some(Handover::new(alloc, setup, next)?),
+        None => None,
+    };
+    Ok(handover)
+}
+
+// Takes the setup and the seeds of the first of these streams.
+fn take_first(list: &mut SeededSetups) -> SeededSetup
+    requires some { 1 ≤ length list.old.setups.items }
+    requires each { length list.old.seeds.items ≡ length list.old.setups.items }
+    ensures setups { list.old.setups.items ≡ result.setup ∷ list.new.setups.items }
+    ensures seeds { list.old.seeds.items ≡ result.seeds ∷ list.new.seeds.items }
+{
+    let setup = list.setups.remove(0);
+    let seeds = list.seeds.remove(0);
+    SeededSetup { setup, seeds }
+}
+
+/// Leaves the last so many of these streams.
+pub fn keep_last(list: &mut SeededSetups, many: usize)
+    requires each { length list.old.seeds.items ≡ length list.old.setups.items }
+    ensures each { length list.new.seeds.items ≡ length list.new.setups.items }
+    ensures last { streams_in list.new ≡ last_streams many (streams_in list.old) }
+{
+    if list.setups.len() <= many {
+        return;
+    }
+    take_first(list);
+    keep_last(list, many);
+}
+
+/// Opens a sender of each of these streams, which are those at this place and behind it, one after another, and hands each over.
+/// It ends where one can't be opened, or no more are wanted.
+///
+/// `Refused` with the line of the first seed that doesn't give the key of its setup; `Failed` with `NoMemory`.
+pub fn open_later<R: Threads + Wait + Sync, X: Later>(
     rt: &R,
     alloc: Global,
     list: &mut SeededSetups,
-    handovers: &mut Vec<Option<Handover>>,
-    senders: &mut Vec<ListedSender>,
+    place: usize,
+    shared: &Shared<X>,
 ) -> Result<(), Stop>
     requires each { length list.old.seeds.items ≡ length list.old.setups.items }
-    requires handovers { length handovers.old.items ≡ length list.old.setups.items }
     requires have { HaveSeeds (streams_in list.old) }
-    requires room { length senders.old.items + length list.old.setups.items ≤ vec_capacity senders.old }
-    ensures puts { IfOk result (λ _. PutsSenders (streams_in list.old) handovers.old.items senders.old.items senders.new.items) }
-    ensures refused { IfErr result (λ stop. LackSenders (streams_in list.old) (stop_view stop)) }
+    requires few { length X.streams ≤ 16 }
+    requires place { streams_in list.old ≡ drop place X.streams }
+    ensures { IfErr result (λ stop. LackSenders (streams_in list.old) (stop_view stop)) }
 {
-    if list.setups.is_empty() {
+    if list.setups.is_empty() || shared.has_ended(rt) {
         return Ok(());
     }
-    let seeded = SeededSetup {
-        setup: list.setups.remove(0),
-        seeds: list.seeds.remove(0),
+    let seeded = take_first(list);
+    let sender = match sender_of(rt, alloc, seeded) {
+        Ok(sender) => sender,
+        Err(stop) => {
+            shared.fail(rt);
+            return Err(stop);
+        }
     };
-    let sender = sender_of(rt, alloc, seeded)?;
-    let handover = handovers.remove(0);
-    senders.push_reserved(ListedSender { sender, handover });
-    put_senders(rt, alloc, list, handovers, senders)
+    if !shared.put(rt, place, sender) {
+        return Err(Stop::Failed(Fault::NoMemory));
+    }
+    open_later(rt, alloc, list, place + 1, shared)
 }
 
 // The sender of a setup with a seed for each of its chains, which are opened side by side.

@@ -233,6 +233,17 @@ link in 'x .
 clock 0 8800001 8900000 8900000 9000000
 told 2 refused setup 0 Over\n
 silent one,two
+* a later stream has another seed, and is the only one that is on when the feed begins $ feed setup,next secret,third-seed in one,two
+# The clock is read twice: nothing is taken of LINK.
+link in 'n .
+clock 0 1850000 2150000 2250000
+told 3 refused seeds 2 WrongSeed\n
+silent one,two
+* the first stream is over at the opening, and the second has another seed $ feed quick,setup quick-seed,wrong-seeds in one,two
+link in 'hi .
+clock 0 1075001 1150000 1250000
+told 3 refused seeds 3 WrongSeed\n
+silent one,two
 * the second setup is refused, before LINK and the second of SECRETS $ feed setup,empty secret,none none one,two
 told 2 refused setup 1 BadLine\n
 silent one,two

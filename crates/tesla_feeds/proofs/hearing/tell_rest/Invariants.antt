@@ -1,4 +1,4 @@
-use Rattle.std.proofs.Common.{◌≡◌, ℕ, List, length, map, true}
+use Rattle.std.proofs.Common.{◌≡◌, ◌≤◌, ◌++◌, ℕ, List, length, map, true, vec_len}
 use Rattle.std.specs.List.{list_all}
 use Rattle.tesla_relay.specs.Posts.{PostSeen}
 use Rattle.tesla_feed.specs.Feed.{has_failed}
@@ -11,13 +11,18 @@ abbrev pub invariant-loop : goal.invariant-loop
 invariant-loop g l =
     let one = λ (post : g.row.P.Denot). let it : PostSeen = record { name = g.P.Post.name post; sent = g.P.Post.sent post; faults = g.P.Post.faults post } in it in
     let seen = λ (posts : List g.row.P.Denot). map one posts in
-    let first = l.initial.feeders in
+    let first = l.initial.feeds in
     let was_told = g.N.Notes.was_told in
     let told = g.C.Clock.told in
+    let right = g.Y.LaterSenders.is_right in
+    let over = g.Y.LaterSenders.left l.initial.instruments.later in
+    let left = g.Y.LaterSenders.left l.instruments.later in
     record {
       each : length l.failed ≡ length l.posts;
       stays : list_all has_failed l.initial.failed ≡ true → l.failed ≡ l.initial.failed;
       fixed : g.N.Notes.fixed l.instruments.notes ≡ g.N.Notes.fixed l.initial.instruments.notes;
-      going : (number : ℕ) × GoesOn one g.P.Post.may_send was_told g.N.Notes.may_note g.C.Clock.gave g.C.Clock.read_for (streams_fed first) number l.feeders l.posts l.failed l.instruments.notes;
-      rests : (fed : Fed) (firsts : List PostSeen) → Goes fed firsts first (seen l.initial.posts) l.initial.failed → Rests fed firsts l.feeders l.failed (told l.initial.instruments.clock) (told l.instruments.clock) (seen l.posts) (was_told l.initial.instruments.notes) (was_told l.instruments.notes);
+      opening : l.feeds.opening ≡ first.opening;
+      no_more : vec_len l.feeds.later ≤ vec_len first.later;
+      going : (number : ℕ) × GoesOn right one g.P.Post.may_send was_told g.N.Notes.may_note g.C.Clock.gave g.C.Clock.read_for (streams_fed first.feeders ++ over) number left l.feeds l.posts l.failed l.instruments.notes;
+      rests : (fed : Fed) (firsts : List PostSeen) → Goes right over fed firsts first (seen l.initial.posts) l.initial.failed → Rests right left fed firsts l.feeds l.failed (told l.initial.instruments.clock) (told l.instruments.clock) (seen l.posts) (was_told l.initial.instruments.notes) (was_told l.instruments.notes);
     }

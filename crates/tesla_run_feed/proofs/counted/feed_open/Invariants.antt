@@ -1,11 +1,12 @@
 use Rattle.std.specs.Prelude.{◌*◌}
+use Rattle.tesla_run_feed.specs.Listing.{streams_in}
 use Rattle.tesla_run_feed.proofs.counted.feed_open.Given as goal
 
-abbrev pub ghosts-feed_ready : goal.ghosts-feed_ready
-ghosts-feed_ready g a = record { name = a.blank.name; parts = a.blank.parts }
+abbrev pub ghosts-feed_beside : goal.ghosts-feed_beside
+ghosts-feed_beside g a = record { streams = streams_in a.later.list }
 
-abbrev pub ghosts-feed_counted : goal.ghosts-feed_counted
-ghosts-feed_counted g a = record {
+abbrev pub ghosts-feed_counted-T-ToldBy : goal.ghosts-feed_counted-T-ToldBy
+ghosts-feed_counted-T-ToldBy g a = record {
   telling = record {
     schedules = a.ready.schedules.items;
     opening = a.ready.feed.opened.opening;
@@ -13,3 +14,6 @@ ghosts-feed_counted g a = record {
     name = a.status.now.output.now;
   };
 }
+
+abbrev pub ghosts-feed_counted-X-Later : goal.ghosts-feed_counted-X-Later
+ghosts-feed_counted-X-Later g a = record { streams = streams_in a.ready.later.list }

@@ -13,10 +13,10 @@ pub run_linked-requires-clause-any_link : goal.run_linked-requires-clause-any_li
 run_linked-requires-clause-any_link g c = λ lifetimes within. c.requires.any_link
 
 pub run_linked-requires-clause-due : goal.run_linked-requires-clause-due
-run_linked-requires-clause-due g c = λ lifetimes within right.
+run_linked-requires-clause-due g c = λ lifetimes within.
     let port = g.D.Port.Post in let clock = g.D.Time.Clock in
     let seen : g.row.D-Port.Denot → PostSeen = λ post. record { name = port.name post; sent = port.sent post; faults = port.faults post } in
-    subst (λ (names : List (List ℕ)). MaySendLasting seen port.may_send clock.gave clock.read_for names (streams_in c.args.list)) (sym c.as_slice.ensures) (c.requires.due right)
+    subst (λ (names : List (List ℕ)). MaySendLasting seen port.may_send clock.gave clock.read_for names (streams_in c.args.list)) (sym c.as_slice.ensures) c.requires.due
 
 pub run_linked-requires-clause-counted : goal.run_linked-requires-clause-counted
 run_linked-requires-clause-counted g c = λ lifetimes within. c.requires.counted
