@@ -284,15 +284,13 @@ fn feed_alone<X: Later, R: Wait, K: Link, C: Clock + Drop, P: Post, G: Gate + Dr
     ensures cause { HasCause (K.faults link.old) (K.faults link.new) (result.0.link_failed ≡ true) }
     ensures link { K.name link.new ≡ K.name link.old }
 {
-    let fed = feed_counted::<Brand, X, R, K, C, P, G, N>(
+    let taking = Taking {
         rt,
-        ready,
-        notes,
-        link,
-        posts,
         shared,
-        Blank::new(1),
-    );
+        taken: 0,
+    };
+    let blank = Blank::new(1);
+    let fed = feed_counted::<Brand, X, R, K, C, P, G, N>(ready, notes, link, posts, taking, blank);
     shared.end(rt);
     fed
 }
@@ -308,14 +306,14 @@ fn feed_counted<
     G: Gate + Drop,
     N: Notes,
 >(
-    rt: &R,
     ready: ReadyFeed<C, G>,
     notes: N,
     link: &mut K,
     posts: &mut Vec<P>,
-    shared: &Shared<X>,
+    taking: Taking<'_, R, X>,
     blank: Blank,
 ) -> (FeedsEnd, N)
+    requires none_taken { taking.taken ≡ 0 }
     requires name { blank.name ≡ L.name }
     requires parts { blank.parts ≡ L.parts }
     requires some { 0 < L.parts }
@@ -336,11 +334,7 @@ fn feed_counted<
         clock,
         gate,
     } = ready;
-    let taking = Taking {
-        rt,
-        shared,
-        taken: 0,
-    };
+    let rt = taking.rt;
     let mut instruments = Instruments::new(clock, gate, notes, taking);
     let mut steps = Steps::<L>::new(blank);
     let end = feeds(

@@ -34,4 +34,6 @@ returns-clause-feeds g c =
       };
       given = c.feeds-end.ensures.given;
     } in
-    subst (λ (it : _). FeedsHeld is_right_stream g.G.Gate.over clock.gave clock.read_for feed (drop it.later.taken g.X.Later.streams) end left now (clock.told it.clock) (map seen c.args.posts.now.items) (map seen (take c.args.posts.now.len (posts ++ rest))) was_told) c.new-instruments.ensures own
+    let counted : FeedsHeld is_right_stream g.G.Gate.over clock.gave clock.read_for feed (drop c.args.taking.taken g.X.Later.streams) end left now (clock.told c.args.ready.clock) (map seen c.args.posts.now.items) (map seen (take c.args.posts.now.len (posts ++ rest))) was_told =
+    subst (λ (it : _). FeedsHeld is_right_stream g.G.Gate.over clock.gave clock.read_for feed (drop it.later.taken g.X.Later.streams) end left now (clock.told it.clock) (map seen c.args.posts.now.items) (map seen (take c.args.posts.now.len (posts ++ rest))) was_told) c.new-instruments.ensures own in
+    subst (λ (taken : ℕ). FeedsHeld is_right_stream g.G.Gate.over clock.gave clock.read_for feed (drop taken g.X.Later.streams) end left now (clock.told c.args.ready.clock) (map seen c.args.posts.now.items) (map seen (take c.args.posts.now.len (posts ++ rest))) was_told) c.requires.none_taken counted
