@@ -7,7 +7,7 @@ import json
 import zlib
 
 from tesla_trace import (
-    ANSWERS, BADKEY, CHOICES, COLUMNS, FOREIGN, FUTURE, GAPS, KEPT, KEYS, LATE, LISTED, MALFORMED, MISFIT, READING_AT, ROW, ROWS, VERDICTS)
+    ANSWERS, BADKEY, BINS, CHOICES, COLUMNS, FOREIGN, FUTURE, GAPS, KEPT, KEYS, LATE, LISTED, MALFORMED, MISFIT, READING_AT, ROW, ROWS, VERDICTS)
 
 WIDE, LEFT, HIGH = 960, 70, 170
 # From below: what a healthy stream has, and then the others.
@@ -141,14 +141,14 @@ def of_margins(story):
         parts.append(text(LEFT, top - 8, name) + axis(top, top + 60, most, lambda it: f"{it:,.0f}"))
         parts.append(bars("v6" if is_late else f"c{chain}", [(LEFT + at * wide, top + 60 - 60 * it[2] / most, max(wide - 1, 1), 60 * it[2] / most)
                                                            for at, it in enumerate(found)])
-                     + "".join(text(LEFT + at * wide, top + 75, "earlier" if low is None else f"{time_of(low)} ms")
-                               for at, (low, _, _) in enumerate(found) if at % 10 == 0))
+                     + "".join(text(LEFT + at * wide, top + 75, "earlier" if low is None else f"{time_of(low)} ms",
+                                    'text-anchor="end"' if at == BINS else "") for at, (low, _, _) in enumerate(found) if at % 10 == 0))
         rows += [(name, "" if low is None else low, "" if high is None else high, count) for low, high, count in found]
     picture = svg("how many packets had so much time left, by chain", 24 + len(chains) * 100 + 90, parts)
     choices = [(words, *(f"{margins.unsafe(at, chain)} ({share(margins.unsafe(at, chain), margins.count)})" for chain in chains))
                for at, words in enumerate(CHOICES)]
-    notes = [f"{margins.count} packets came to this test, of which {margins.by_key} were late on a chain that was safe by the clock: its key had "
-             "come." if margins.by_key else f"{margins.count} packets came to this test."]
+    by_key = f", of which {margins.by_key} were late on a chain that was safe by the clock: its key had come" if margins.by_key else ""
+    notes = [f'<span id="tested">{margins.count}</span> packets came to this test{by_key}.']
     others = [f"{count} of {VERDICTS[code - 1]}" for code, count in totals(story).items() if code in (FUTURE, BADKEY) and count]
     notes += [f"Not among them: {' and '.join(others)}, which fit the stream and were refused before."] if others else []
     if story.is_tail:
@@ -258,7 +258,7 @@ def of_losses(story):
                              for place, _, it in columns]))
     scale = over.scale(HIGH).replace("interval of the receiver's clock", "interval of the packets")
     lost, came = (sum(getattr(it, name) for _, _, it in columns) for name in ("lost", "came"))
-    words = (f"<span id=lost>{lost}</span> lost, {came} came. Packets behind the last one of an interval that came aren't known, nor intervals of which "
+    words = (f"<span id="lost">{lost}</span> lost, {came} came. Packets behind the last one of an interval that came aren't known, nor intervals of which "
              "none did. Where packets of an interval were released, the last of these counts, and else the last that came.")
     rows = [(over.columns.named(first), it.came, it.lost) for place, first, it in columns]
     return figure("losses", svg("how many packets came and were lost, by interval", HIGH + 44, [*parts, scale]),
