@@ -326,9 +326,10 @@ WRONG = {
 }
 
 
-def exact(check):
-    """A history with a packet whose time left is 0, or one more, on each chain: it is late there, or is not."""
-    found = []
+def exact():
+    """A history with a packet whose time left is 0, or one more, on each chain: it is late there, or is not. And with one whose time left is
+    the greatest that there can be."""
+    found = [(START + 2 * LENGTH - LAG, recorded.frame_text(recorded.message_frame(recorded.STREAM, 2, 0, b"edge")))]
     for chain, interval in ((0, 3), (1, 9)):
         for more in (0, 1):
             frame = recorded.message_frame(recorded.STREAM, interval, more, b"edge")
@@ -397,7 +398,7 @@ def of_pages(check):
     """All trials of pages."""
     assert judged(recorded.SETUP) == recorded.STREAM.setup
     wants = {name: Expected(history) for name, history in recorded.histories().items()}
-    edge = Expected(exact(check))
+    edge = Expected(exact())
     recorded.extra["edge"] = edge.history
     wants["edge"] = edge
     for name, want in wants.items():

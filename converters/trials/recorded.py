@@ -56,9 +56,11 @@ def good(draw):
 
 
 def late(draw):
-    """A network whose way grows from 10 to 640 ms and shrinks again."""
+    """A network whose way grows from 10 to 640 ms and shrinks again, and which then brings nothing for two intervals."""
     found = []
     for at, frame in sent(draw):
+        if 52 <= (at - START) // LENGTH < 54:
+            continue
         part = min(1, max(0, 1 - abs(at - START - 33 * LENGTH) / (17 * LENGTH)))
         found.append((at + 10_000 + int(630_000 * part) + draw.randrange(9_000), frame_text(frame)))
     return found
