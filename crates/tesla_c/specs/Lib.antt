@@ -1,0 +1,4 @@
+pub mod Slot
+pub mod Held
+pub mod Told
+pub mod Receivers
