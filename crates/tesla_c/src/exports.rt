@@ -189,8 +189,6 @@ pub extern "C" fn tesla_receiver_close(alloc: Global, slot: &mut Slot) -> u32
     ensures status { result ≡ 0 }
     ensures empty { held_in slot.new ≡ None }
 {
-    if let Some(engine) = slot.take(alloc) {
-        drop(engine);
-    }
+    slot.close(alloc);
     OK
 }
