@@ -1,4 +1,4 @@
-/* libtesla: receivers of TESLA streams (RFC 4082) for C99 and C++11.
+/* libtesla: receivers and senders of TESLA streams (RFC 4082) for C99 and C++11.
  *
  * A slot is 16 bytes of the caller, begun with {0}. A call that opens fills it, and a close empties it and gives all memory
  * back. No call but an opening takes memory, and none waits, prints or reads a clock: datagrams and readings are passed in.
@@ -23,10 +23,10 @@ extern "C" {
 
 /* What calls answer. At any status but TESLA_OK, TESLA_EMPTY and TESLA_OVER a slot is as it was. */
 #define TESLA_OK 0
-#define TESLA_REFUSED 1    /* the text is refused: line and kind are told */
+#define TESLA_REFUSED 1    /* the text, the message or the disclosure is refused: why is told */
 #define TESLA_BAD_NUMBER 2 /* a number is outside its limits: its place is told */
 #define TESLA_NO_MEMORY 3
-#define TESLA_WRONG_SLOT 4 /* full where it should be empty, or empty where it should be full */
+#define TESLA_WRONG_SLOT 4 /* full where it should be empty, or it doesn't hold what the call is for */
 #define TESLA_SPENT 5      /* 2^64 - 1 calls were made of this receiver */
 #define TESLA_EMPTY 6      /* no packet waits now */
 #define TESLA_OVER 7       /* no packet waits, and every ingest has ended */
@@ -94,6 +94,46 @@ typedef struct tesla_receiver {
     void *at;
 } tesla_receiver;
 
+/* A slot for a sender: tesla_sender it = {0}; */
+typedef struct tesla_sender {
+    uint64_t full;
+    void *at;
+} tesla_sender;
+
+/* Why no sender is opened, or no setup is made. text is 1 for the text of the setup and 2 for that of the seeds, and line its
+ * first refused line, from 1 on, or 0 for the whole text; the seed of chain k has line k + 2. kind is a kind of tesla_refusal
+ * for the setup, and one of the next for the seeds; chain is that of a wrong seed, and else 0. */
+typedef struct tesla_sender_refusal {
+    uint32_t text;
+    uint32_t line;
+    uint32_t kind;
+    uint32_t chain;
+} tesla_sender_refusal;
+
+#define TESLA_SEEDS_BAD_LINE 16
+#define TESLA_SEEDS_BAD_HEX 17
+#define TESLA_SEEDS_WRONG_COUNT 18 /* there are more seeds than chains, or fewer */
+#define TESLA_SEEDS_TOO_LONG 19
+#define TESLA_WRONG_SEED 32 /* the seed doesn't give the key of the setup */
+
+/* Why a message or a disclosure isn't accepted: the first kind that applies, and its number. */
+typedef struct tesla_cause {
+    uint32_t kind;
+    uint64_t number;
+} tesla_cause;
+
+#define TESLA_PAYLOAD_TOO_LONG 1 /* the payload has this many bytes, more than 1200 */
+#define TESLA_TOO_EARLY 2        /* this reading is before the start, or in interval 0 */
+#define TESLA_PAST_LAST 3        /* the reading is in this interval, after the last one */
+#define TESLA_BACKWARD 4         /* the last accepted call was of this interval, which is after that of the reading */
+#define TESLA_INTERVAL_FULL 5    /* the 65536 numbers of this interval are used */
+#define TESLA_NOTHING_DUE 6      /* no chain has a key to disclose yet; the number is 0 */
+
+/* Room for a frame, which stands at its start. */
+typedef struct tesla_datagram {
+    uint8_t bytes[2048];
+} tesla_datagram;
+
 /* The functions of the library. They take no NULL, but for bytes of length 0; the inline functions below do. */
 uint32_t tesla_version(void);
 uint32_t tesla_receiver_open(tesla_receiver *slot, const uint8_t *text, size_t length, int64_t lag, uint32_t capacity,
@@ -105,6 +145,16 @@ uint32_t tesla_receiver_end(tesla_receiver *slot, uint8_t ingest);
 uint32_t tesla_receiver_report(tesla_receiver *slot, tesla_report *report);
 uint32_t tesla_receiver_waiting(tesla_receiver *slot, uint64_t *count);
 uint32_t tesla_receiver_close(tesla_receiver *slot);
+uint32_t tesla_sender_open(tesla_sender *slot, const uint8_t *setup, size_t setup_length, const uint8_t *seeds,
+                           size_t seeds_length, tesla_sender_refusal *refusal);
+uint32_t tesla_sender_message(tesla_sender *slot, uint64_t reading, const uint8_t *payload, size_t length,
+                              tesla_datagram *into, size_t *written, tesla_cause *cause);
+uint32_t tesla_sender_disclose(tesla_sender *slot, uint64_t reading, tesla_datagram *into, size_t *written,
+                               tesla_cause *cause);
+uint32_t tesla_sender_begin_at(tesla_sender *slot, uint64_t interval);
+uint32_t tesla_sender_make_next(tesla_sender *slot);
+uint32_t tesla_sender_interval_at(tesla_sender *slot, uint64_t reading, uint64_t *interval);
+uint32_t tesla_sender_close(tesla_sender *slot);
 
 /* Opens a receiver into an empty slot, of the setup that the bytes spell, for a sender's clock that is ahead by lag
  * microseconds at most. capacity is 1 to 65536 packets, quota 1 to capacity packets of one interval, ingests 1 at least. The
@@ -146,6 +196,54 @@ static inline uint32_t tesla_tell_waiting(tesla_receiver *slot, uint64_t *count)
 /* Closes the receiver and gives its memory back; an empty slot stays empty. */
 static inline uint32_t tesla_close(tesla_receiver *slot) {
     return slot ? tesla_receiver_close(slot) : TESLA_NULL;
+}
+
+/* Opens a sender into an empty slot, of the setup and the seeds that the bytes spell: as many seeds as the setup has chains, of
+ * which each gives the key of the setup. It takes as many evaluations of HMAC as all chains have keys together. The first of
+ * TESLA_WRONG_SLOT, TESLA_REFUSED and TESLA_NO_MEMORY that applies is told. */
+static inline uint32_t tesla_send_open(tesla_sender *slot, const uint8_t *setup, size_t setup_length, const uint8_t *seeds,
+                                       size_t seeds_length, tesla_sender_refusal *refusal) {
+    if (!slot || !refusal || (!setup && setup_length) || (!seeds && seeds_length)) return TESLA_NULL;
+    return tesla_sender_open(slot, setup, setup_length, seeds, seeds_length, refusal);
+}
+
+/* Makes the frame of a message of at most 1200 bytes at this reading of the sender's clock, in microseconds, and tells its
+ * length; the bytes behind it stay. TESLA_REFUSED tells the cause, and then nothing else has changed. */
+static inline uint32_t tesla_send_message(tesla_sender *slot, uint64_t reading, const uint8_t *payload, size_t length,
+                                          tesla_datagram *into, size_t *written, tesla_cause *cause) {
+    if (!slot || !into || !written || !cause || (!payload && length)) return TESLA_NULL;
+    return tesla_sender_message(slot, reading, payload, length, into, written, cause);
+}
+
+/* Makes the frame that tells the keys that are due at this reading of the sender's clock, as tesla_send_message does that of a
+ * message. */
+static inline uint32_t tesla_send_disclose(tesla_sender *slot, uint64_t reading, tesla_datagram *into, size_t *written,
+                                           tesla_cause *cause) {
+    if (!slot || !into || !written || !cause) return TESLA_NULL;
+    return tesla_sender_disclose(slot, reading, into, written, cause);
+}
+
+/* Goes on to an interval: from here on the sender answers as if its last accepted call were of that interval. A sender that was
+ * opened again, of the same seeds, never sends for an interval in which the one before it did: it goes on to a later one.
+ * TESLA_BAD_NUMBER: the interval is before that of the last accepted call. */
+static inline uint32_t tesla_send_begin_at(tesla_sender *slot, uint64_t interval) {
+    return slot ? tesla_sender_begin_at(slot, interval) : TESLA_NULL;
+}
+
+/* Makes the keys of the interval after that of the last accepted call, where there is one, so that a first message there waits
+ * for no key. Nothing else changes. */
+static inline uint32_t tesla_send_make_next(tesla_sender *slot) {
+    return slot ? tesla_sender_make_next(slot) : TESLA_NULL;
+}
+
+/* Tells the interval of a reading of the sender's clock: 0 before the start. */
+static inline uint32_t tesla_send_interval_at(tesla_sender *slot, uint64_t reading, uint64_t *interval) {
+    return slot && interval ? tesla_sender_interval_at(slot, reading, interval) : TESLA_NULL;
+}
+
+/* Closes the sender and gives its memory back; an empty slot stays empty. */
+static inline uint32_t tesla_send_close(tesla_sender *slot) {
+    return slot ? tesla_sender_close(slot) : TESLA_NULL;
 }
 
 #ifdef __cplusplus
