@@ -131,8 +131,8 @@ fn disclose(
     ensures other { result ≢ 4 }
 {
     match disclosed::<Brand>(sender, reading, &mut into.bytes, Blank::new(1)) {
-        Ok(size) => {
-            *written = size;
+        Ok(length) => {
+            *written = length;
             OK
         }
         Err(refusal) => {
