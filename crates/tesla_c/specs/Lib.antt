@@ -2,3 +2,4 @@ pub mod Slot
 pub mod Held
 pub mod Told
 pub mod Receivers
+pub mod Pure

@@ -4,8 +4,12 @@
 mod answers;
 mod engine;
 mod exports;
+mod frames;
+mod lags;
 mod loose;
 mod opening;
+mod pure;
 mod receiver;
+mod setups;
 mod slot;
 mod status;
