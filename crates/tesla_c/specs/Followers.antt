@@ -1,8 +1,5 @@
 -- Followers in slots, and what their calls tell in numbers.
-use Rattle.std.specs.Prelude.{◌≡◌, ℕ, ℤ, ◌+◌, ◌^◌, List, [], length, take, nat_le, nat_lt, ◌&&◌, if◌then◌else◌, Result, Ok, Err}
-use Rattle.std.specs.Prelude as prelude
-use Rattle.std.specs.declared.option.Option.{Option}
-use Rattle.std.specs.declared.option.Option.TheVariants.{None, Some}
+use Rattle.std.specs.Prelude.{◌≡◌, ℕ, ℤ, ◌+◌, ◌^◌, List, [], length, take, nat_le, nat_lt, ◌&&◌, if◌then◌else◌, Option, Some, None, Result, Ok, Err}
 use Rattle.tesla_base.specs.declared.release.Head.{Head}
 use Rattle.tesla_commit.specs.ChainRows.{first_line}
 use Rattle.tesla_commit.specs.Equal.{first_equal}
@@ -64,9 +61,9 @@ abbrev pub bad_follow_number : (capacity quota ingests : ℕ) → ℕ
 bad_follow_number capacity quota ingests =
     if nat_le 1 capacity && nat_le capacity 4096 then (if nat_le 1 quota && nat_le quota capacity then (if nat_le 1 ingests then 0 else 6) else 5) else 4
 
-abbrev pub distinct_judged : Parts → prelude.Option ℕ → Result Parts (ℕ × ℕ)
-distinct_judged setup prelude.None = Ok setup
-distinct_judged setup (prelude.Some chain) = Err (first_line setup.version + chain, 10)
+abbrev pub distinct_judged : Parts → Option ℕ → Result Parts (ℕ × ℕ)
+distinct_judged setup None = Ok setup
+distinct_judged setup (Some chain) = Err (first_line setup.version + chain, 10)
 
 -- a setup in which no two commitments are equal, or the line and the number of the kind that are refused: for equal commitments the line of the first chain whose commitment a chain before has
 abbrev pub follow_judged : Result Parts (ℕ × SetupKind) → Result Parts (ℕ × ℕ)

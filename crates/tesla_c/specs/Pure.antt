@@ -1,6 +1,6 @@
 -- What the calls tell that read a text or a datagram and keep nothing.
-use Rattle.std.specs.Prelude.{◌≡◌, ℕ, ℤ, List, length, map, Option, Some, None, Result, Ok, Err}
-use Rattle.std.specs.List.{range_with_len, replicate, slice_get, sum_by}
+use Rattle.std.specs.Prelude.{◌≡◌, ℕ, ℤ, List, length, map, Option, Some, None, Result, Ok, Err, replicate}
+use Rattle.std.specs.List.{range_with_len, slice_get, sum_by}
 use Rattle.tesla_base.specs.Version.{number_of}
 use Rattle.tesla_base.specs.declared.names.Key.{Key}
 use Rattle.tesla_commit.specs.Parts.{Parts}
@@ -56,9 +56,14 @@ abbrev key_count : Option Key → ℕ
 key_count (Some key) = 1
 key_count None = 0
 
--- how many keys a row of a message tells
-abbrev pub row_keys : TagRow → ℕ
-row_keys row = key_count row.key
+-- how many keys a message tells in the row of a chain
+abbrev pub place_keys : Option TagRow → ℕ
+place_keys (Some row) = key_count row.key
+place_keys None = 0
+
+-- how many keys a message tells, which has eight rows at most
+abbrev pub keys_told : List TagRow → ℕ
+keys_told rows = sum_by (λ (chain : ℕ). place_keys (slice_get rows chain)) (range_with_len 0 8)
 
 abbrev pub frame_told : Frame → CFrame
 frame_told (Data frame) = record {
@@ -69,7 +74,7 @@ frame_told (Data frame) = record {
   version = number_of frame.version;
   kind = 0;
   tag_length = frame.tag_length;
-  keys = sum_by row_keys frame.rows;
+  keys = keys_told frame.rows;
 }
 frame_told (Disclosure frame) = record {
   stream = frame.stream.0;
