@@ -1,5 +1,5 @@
 -- Followers in slots, and what their calls tell in numbers.
-use Rattle.std.specs.Prelude.{◌≡◌, ℕ, ℤ, ◌+◌, ◌^◌, List, [], length, take, nat_le, nat_lt, ◌&&◌, if◌then◌else◌, Option, Some, None, Result, Ok, Err}
+use Rattle.std.specs.Prelude.{◌≡◌, ℕ, ℤ, Bool, true, false, ◌+◌, ◌^◌, List, [], length, take, nat_le, nat_lt, ◌&&◌, if◌then◌else◌, Option, Some, None, Result, Ok, Err}
 use Rattle.tesla_base.specs.declared.release.Head.{Head}
 use Rattle.tesla_commit.specs.ChainRows.{first_line}
 use Rattle.tesla_commit.specs.Equal.{first_equal}
@@ -49,6 +49,16 @@ followed_status (Sending state) = 4
 abbrev pub follow_status : Option Engine → ℕ
 follow_status None = 4
 follow_status (Some engine) = followed_status engine
+
+abbrev pub is_followed : Engine → Bool
+is_followed (Following state) = true
+is_followed (Receiving state) = false
+is_followed (Sending state) = false
+
+-- the status of a close: an empty slot stays as it is
+abbrev pub follow_close_status : Option Engine → ℕ
+follow_close_status None = 0
+follow_close_status (Some engine) = if is_followed engine then 0 else 4
 
 -- a slot that isn't a follower's
 abbrev pub HasNone : Option Engine → Type 0

@@ -3,3 +3,4 @@ pub mod Held
 pub mod Told
 pub mod Receivers
 pub mod Pure
+pub mod Followers

@@ -5,7 +5,7 @@ ghost use Rattle.tesla_fitting.specs.declared.config.Config.{Config};
 ghost use Rattle.tesla_follow.specs.Counted.{waiting_over};
 ghost use Rattle.tesla_follow.specs.History.{FollowEntry, entry_of, followed};
 ghost use Rattle.tesla_receiver.specs.History.{Arrives, Takes, Ends};
-ghost use Rattle.tesla_c.specs.Followers.{IsFollower, TellsFollowVerdict, TellsTaken, follow_report_told, followed_status};
+ghost use Rattle.tesla_c.specs.Followers.{IsFollower, TellsFollowVerdict, TellsTaken, follow_report_told, followed_status, is_followed};
 
 use crate::answers::CPayload;
 use crate::engine::Engine;
@@ -121,4 +121,15 @@ pub(crate) fn waiting(engine: &Engine, count: &mut u64) -> u32
     };
     *count = follower.waiting();
     OK
+}
+
+/// Whether what was opened is a follower.
+pub(crate) fn is_followed(engine: &Engine) -> bool
+    ensures { result ≡ is_followed engine.now }
+{
+    match engine {
+        Engine::Following(_) => true,
+        Engine::Receiving(_) => false,
+        Engine::Sending(_) => false,
+    }
 }

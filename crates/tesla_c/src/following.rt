@@ -8,11 +8,10 @@ ghost use Rattle.tesla_fitting.specs.declared.config.Config.{Config};
 ghost use Rattle.tesla_follow.specs.Counted.{waiting_over};
 ghost use Rattle.tesla_follow.specs.History.{FollowEntry, entry_of, followed};
 ghost use Rattle.tesla_receiver.specs.History.{Arrives, Takes, Ends};
-ghost use Rattle.tesla_c.specs.Followers.{HasFollower, HasNone, IsFollowOpened, IsFollowRefused, IsFollowWanting, TellsFollowVerdict, TellsTaken, bad_follow_number, follow_judged, follow_report_told, follow_status};
+ghost use Rattle.tesla_c.specs.Followers.{HasFollower, HasNone, IsFollowOpened, IsFollowRefused, IsFollowWanting, TellsFollowVerdict, TellsTaken, bad_follow_number, follow_close_status, follow_judged, follow_report_told, follow_status};
 ghost use Rattle.tesla_c.specs.Held.{held_in};
 
 use crate::answers::{CPayload, CRefusal};
-use crate::engine::Engine;
 use crate::follow_opening::{FollowRefusal, bad_follow_number, open};
 use crate::follower;
 use crate::records::{CFollowReport, CFollowVerdict, CRecord};
@@ -175,4 +174,22 @@ pub extern "C" fn tesla_follower_waiting(alloc: Global, slot: &mut Slot, count: 
     let status = follower::waiting(&engine, count);
     slot.put(engine);
     status
+}
+
+/// Closes a follower, and gives all its memory back. An empty slot stays empty. WRONG_SLOT: it is another's.
+#[unsafe(no_mangle)]
+pub extern "C" fn tesla_follower_close(alloc: Global, slot: &mut Slot) -> u32
+    ensures status { result ≡ follow_close_status (held_in slot.old) }
+    ensures empty { result ≡ 0 → held_in slot.new ≡ None }
+    ensures same { result ≢ 0 → held_in slot.new ≡ held_in slot.old }
+{
+    let Some(engine) = slot.take(alloc) else {
+        return OK;
+    };
+    if follower::is_followed(&engine) {
+        drop(engine);
+        return OK;
+    }
+    slot.put(engine);
+    WRONG_SLOT
 }
