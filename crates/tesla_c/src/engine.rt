@@ -11,6 +11,6 @@ pub enum Engine {
     Receiving(Receiver),
     /// A sender of one stream.
     Sending(Sender),
-    /// A follower of a feed.
+    /// A receiver of the streams of a feed, one after the other.
     Following(Follower),
 }

@@ -53,8 +53,8 @@ fn take_from(
     head: &mut CHead,
 ) -> u32
     ensures spent { result ≡ 5 → receiver.old.calls ≡ 2 ^ 64 - 1 }
-    ensures answer { result ≢ 5 → (config : Config) → (h : List Entry) → receiver.old.config ≡ config → Stands receiver.old h → TellsReply (reply_to config h) result head.new payload.new.bytes }
-    ensures stands { result ≢ 5 → (config : Config) → (h : List Entry) → receiver.old.config ≡ config → Stands receiver.old h → Stands receiver.new (h ++ entry_of config h (Takes releaser) ∷ []) }
+    ensures answer { result ≢ 5 → (h : List Entry) → Stands receiver.old h → TellsReply (reply_to receiver.old.config h) result head.new payload.new.bytes }
+    ensures stands { result ≢ 5 → (h : List Entry) → Stands receiver.old h → Stands receiver.new (h ++ entry_of receiver.old.config h (Takes releaser) ∷ []) }
     ensures config { receiver.new.config ≡ receiver.old.config }
     ensures same { result ≡ 5 → (receiver.new ≡ receiver.old) × (payload.new ≡ payload.old) }
     ensures head { result ≢ 0 → head.new ≡ head.old }
@@ -74,6 +74,7 @@ fn take_from(
 }
 
 /// A take.
+#[tactic(auto, using(crate::proofs::Standing::taken_stands))]
 pub(crate) fn take(
     engine: &mut Engine,
     releaser: u8,
