@@ -146,16 +146,16 @@ typedef struct tesla_chain {
     uint8_t key[32];
 } tesla_chain;
 
-/* What a setup says: the stream, the microseconds at which interval 0 begins and of an interval, the last interval, the version,
- * the bytes of a tag, and its chains; places of rows behind the last are zeros. */
+/* What a setup says: the stream, the microseconds at which interval 0 begins and those of an interval, the last interval, the
+ * version, the bytes of a tag, and how many chains; places of rows behind the last chain are zeros. */
 typedef struct tesla_setup {
     uint64_t stream, start, interval;
     uint32_t last, version, tag_length, chains;
     tesla_chain rows[8];
 } tesla_setup;
 
-/* The head of a frame: its stream, of a message its interval, its number and the bytes of its payload and of a tag, its version
- * and kind, and how many keys it tells. */
+/* The head of a frame: its stream, of a message its interval, its number and the bytes of its payload, its version and kind, of
+ * a message the bytes of a tag, and how many keys it tells. */
 typedef struct tesla_frame {
     uint64_t stream;
     uint32_t interval;
@@ -249,8 +249,8 @@ static inline uint32_t tesla_close(tesla_receiver *slot) {
 /* Opens a follower into an empty slot, as tesla_open does a receiver, of the setup of the first stream, in which no two
  * commitments may be equal. capacity is 1 to 4096: the packets of each epoch, and the messages that wait. The memory of all
  * epochs, of which three are open at most, is taken here. */
-static inline uint32_t tesla_follow_open(tesla_follower *slot, const uint8_t *text, size_t length, int64_t lag, uint32_t capacity,
-                                         uint32_t quota, uint8_t ingests, tesla_refusal *refusal) {
+static inline uint32_t tesla_follow_open(tesla_follower *slot, const uint8_t *text, size_t length, int64_t lag,
+                                         uint32_t capacity, uint32_t quota, uint8_t ingests, tesla_refusal *refusal) {
     if (!slot || !refusal || (!text && length)) return TESLA_NULL;
     return tesla_follower_open(slot, text, length, lag, capacity, quota, ingests, refusal);
 }
