@@ -99,7 +99,6 @@ abbrev pub IsFollowRefusedBy : Result Parts (ℕ × ℕ) → FollowRefusal → T
 IsFollowRefusedBy judged (refusals.Text why) = IsFollowRefused judged why
 IsFollowRefusedBy judged refusals.NoMemory = IsFollowWanting judged
 
-
 -- ---- an arrival
 
 abbrev pub acceptance_code : Acceptance → ℕ

@@ -9,7 +9,9 @@ ghost use Rattle.tesla_c.specs.Followers.{IsFollower, TellsFollowVerdict, TellsT
 
 use crate::answers::CPayload;
 use crate::engine::Engine;
-use crate::records::{CFollowReport, CFollowVerdict, CRecord, follow_counts, follow_told, record_of};
+use crate::records::{
+    CFollowReport, CFollowVerdict, CRecord, follow_counts, follow_told, record_of,
+};
 use crate::status::{EMPTY, OK, OVER, SPENT, WRONG_SLOT};
 use std::sync::ledger::{Blank, Ledger};
 use tesla_base::Steps;
