@@ -3,3 +3,5 @@ pub mod Held
 pub mod Told
 pub mod Receivers
 pub mod Senders
+pub mod Pure
+pub mod Followers

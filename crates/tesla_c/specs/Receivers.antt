@@ -1,5 +1,5 @@
 -- Receivers in slots.
-use Rattle.std.specs.Prelude.{◌≡◌, ℕ, ℤ, List, [], Result, Ok, Err, nat_le, ◌&&◌, ◌==◌, ◌-◌, ◌^◌, if◌then◌else◌, take}
+use Rattle.std.specs.Prelude.{◌≡◌, ℕ, ℤ, Bool, true, false, List, [], Result, Ok, Err, nat_le, ◌&&◌, ◌==◌, ◌-◌, ◌^◌, if◌then◌else◌, take}
 use Rattle.std.specs.declared.option.Option.{Option}
 use Rattle.std.specs.declared.option.Option.TheVariants.{None, Some}
 use Rattle.tesla_commit.specs.Parts.{Parts}
@@ -40,6 +40,16 @@ counted_status (Following state) = 4
 abbrev pub call_status : Option Engine → ℕ
 call_status None = 4
 call_status (Some engine) = counted_status engine
+
+abbrev pub is_received : Engine → Bool
+is_received (Receiving state) = true
+is_received (Sending state) = false
+is_received (Following state) = false
+
+-- the status of a close: an empty slot stays as it is
+abbrev pub close_status : Option Engine → ℕ
+close_status None = 0
+close_status (Some engine) = if is_received engine then 0 else 4
 
 -- the numbers of an opening: 0, or the first that is outside its limits, as parameters count from 1
 abbrev pub bad_number : (capacity quota ingests : ℕ) → ℕ

@@ -1,5 +1,5 @@
 -- Senders in slots.
-use Rattle.std.specs.Prelude.{◌≡◌, ℕ, ◌+◌, List, [], ◌∷◌, ◌++◌, Result, Ok, Err, length, nat_lt, ◌==◌, if◌then◌else◌}
+use Rattle.std.specs.Prelude.{◌≡◌, ℕ, ◌+◌, Bool, true, false, List, [], ◌∷◌, ◌++◌, Result, Ok, Err, length, nat_lt, ◌==◌, if◌then◌else◌}
 use Rattle.std.specs.declared.option.Option.{Option}
 use Rattle.std.specs.declared.option.Option.TheVariants.{None, Some}
 use Rattle.tesla_base.specs.declared.names.Key.{Key}
@@ -69,6 +69,16 @@ sending_status (Following state) = 4
 abbrev pub sender_status : Option Engine → ℕ
 sender_status None = 4
 sender_status (Some engine) = sending_status engine
+
+abbrev pub is_sending : Engine → Bool
+is_sending (Receiving state) = false
+is_sending (Sending state) = true
+is_sending (Following state) = false
+
+-- the status of a close: an empty slot stays as it is
+abbrev pub sender_close_status : Option Engine → ℕ
+sender_close_status None = 0
+sender_close_status (Some engine) = if is_sending engine then 0 else 4
 
 -- the status of going on to an interval, which isn't before that of the last accepted call
 abbrev pub going_status : Engine → ℕ → ℕ

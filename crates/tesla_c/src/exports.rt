@@ -9,7 +9,7 @@ ghost use Rattle.tesla_receiver.specs.Events.{waiting_in};
 ghost use Rattle.tesla_receiver.specs.History.{Arrives, Takes, Ends, entry_of, reply_to};
 ghost use Rattle.tesla_receiver.specs.Report.{report_of};
 ghost use Rattle.tesla_c.specs.Held.{held_in};
-ghost use Rattle.tesla_c.specs.Receivers.{HasReceiver, IsOpened, IsRefused, IsWanting, TellsReply, TellsVerdict, bad_number, call_status};
+ghost use Rattle.tesla_c.specs.Receivers.{HasReceiver, IsOpened, IsRefused, IsWanting, TellsReply, TellsVerdict, bad_number, call_status, close_status};
 ghost use Rattle.tesla_c.specs.Told.{report_told};
 
 use crate::answers::{CHead, CPayload, CRefusal, CReport, CVerdict, code_of};
@@ -183,12 +183,20 @@ pub extern "C" fn tesla_receiver_waiting(alloc: Global, slot: &mut Slot, count: 
     status
 }
 
-/// Closes what a slot holds, and gives all its memory back. An empty slot stays empty.
+/// Closes a receiver, and gives all its memory back. An empty slot stays empty. WRONG_SLOT: it is another's.
 #[unsafe(no_mangle)]
 pub extern "C" fn tesla_receiver_close(alloc: Global, slot: &mut Slot) -> u32
-    ensures status { result ≡ 0 }
-    ensures empty { held_in slot.new ≡ None }
+    ensures status { result ≡ close_status (held_in slot.old) }
+    ensures empty { result ≡ 0 → held_in slot.new ≡ None }
+    ensures same { result ≢ 0 → held_in slot.new ≡ held_in slot.old }
 {
-    slot.close(alloc);
-    OK
+    let Some(engine) = slot.take(alloc) else {
+        return OK;
+    };
+    if receiver::is_received(&engine) {
+        drop(engine);
+        return OK;
+    }
+    slot.put(engine);
+    WRONG_SLOT
 }

@@ -6,7 +6,7 @@ ghost use Rattle.tesla_commit.specs.Parsing.{judged};
 ghost use Rattle.tesla_sender.specs.Made.{Call, Disclose, Message, Stream, interval_at, made_disclosure, made_message};
 ghost use Rattle.tesla_sender.specs.Stands.{gone_on, returned_disclosure, returned_message, sent_in};
 ghost use Rattle.tesla_c.specs.Held.{held_in};
-ghost use Rattle.tesla_c.specs.Senders.{HasOpenedSender, HasSender, IfHeld, IsHeld, IsSenderRefused, IsWantingFor, TellsMade, ahead_of, begin_status, disclosure_cause, log_by, message_cause, sender_status};
+ghost use Rattle.tesla_c.specs.Senders.{HasOpenedSender, HasSender, IfHeld, IsHeld, IsSenderRefused, IsWantingFor, TellsMade, ahead_of, begin_status, disclosure_cause, log_by, message_cause, sender_close_status, sender_status};
 
 use crate::sender;
 use crate::sender_answers::{CCause, CDatagram, CSenderRefusal};
@@ -163,12 +163,20 @@ pub extern "C" fn tesla_sender_interval_at(
     status
 }
 
-/// Closes what a slot holds, and gives all its memory back. An empty slot stays empty.
+/// Closes a sender, and gives all its memory back. An empty slot stays empty. WRONG_SLOT: it is another's.
 #[unsafe(no_mangle)]
 pub extern "C" fn tesla_sender_close(alloc: Global, slot: &mut Slot) -> u32
-    ensures status { result ≡ 0 }
-    ensures empty { held_in slot.new ≡ None }
+    ensures status { result ≡ sender_close_status (held_in slot.old) }
+    ensures empty { result ≡ 0 → held_in slot.new ≡ None }
+    ensures same { result ≢ 0 → held_in slot.new ≡ held_in slot.old }
 {
-    slot.close(alloc);
-    OK
+    let Some(engine) = slot.take(alloc) else {
+        return OK;
+    };
+    if sender::is_sending(&engine) {
+        drop(engine);
+        return OK;
+    }
+    slot.put(engine);
+    WRONG_SLOT
 }

@@ -8,7 +8,7 @@ ghost use Rattle.tesla_receiver.specs.History.{Arrives, Takes, Ends, entry_of, r
 ghost use Rattle.tesla_receiver.specs.Stands.{Stands};
 ghost use Rattle.tesla_receiver.specs.Report.{report_of};
 ghost use Rattle.tesla_c.specs.Told.{report_told};
-ghost use Rattle.tesla_c.specs.Receivers.{IsReceiver, TellsReply, TellsVerdict, counted_status};
+ghost use Rattle.tesla_c.specs.Receivers.{IsReceiver, TellsReply, TellsVerdict, counted_status, is_received};
 
 use crate::answers::{CHead, CPayload, CReport, CVerdict, counts_of, head_of, told};
 use crate::engine::Engine;
@@ -136,4 +136,15 @@ pub(crate) fn waiting(engine: &Engine, count: &mut u64) -> u32
     };
     *count = receiver.waiting();
     OK
+}
+
+/// Whether what was opened is a receiver.
+pub(crate) fn is_received(engine: &Engine) -> bool
+    ensures { result ≡ is_received engine.now }
+{
+    match engine {
+        Engine::Receiving(_) => true,
+        Engine::Sending(_) => false,
+        Engine::Following(_) => false,
+    }
 }

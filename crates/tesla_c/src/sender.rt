@@ -3,7 +3,7 @@
 ghost use Rattle.std.specs.Prelude.{◌≡◌, ◌≢◌, ◌≤◌, ◌<◌, List, IfOk, OnErr};
 ghost use Rattle.tesla_sender.specs.Made.{Call, Disclose, Message, Stream, interval_at, made_disclosure, made_message};
 ghost use Rattle.tesla_sender.specs.Stands.{Answers, Stands, gone_on, log_after, returned_disclosure, returned_message, sent_in};
-ghost use Rattle.tesla_c.specs.Senders.{IfSending, IsSender, IsSending, TellsMade, ahead_of, disclosure_cause, going_status, log_by, message_cause, sending_status};
+ghost use Rattle.tesla_c.specs.Senders.{IfSending, IsSender, IsSending, TellsMade, ahead_of, disclosure_cause, going_status, is_sending, log_by, message_cause, sending_status};
 
 use crate::engine::Engine;
 use crate::sender_answers::{CCause, CDatagram, disclosure_cause_of, message_cause_of};
@@ -234,5 +234,16 @@ pub(crate) fn interval_of(engine: &Engine, reading: u64, interval: &mut u64) -> 
             OK
         }
         _ => WRONG_SLOT,
+    }
+}
+
+/// Whether what was opened is a sender.
+pub(crate) fn is_sending(engine: &Engine) -> bool
+    ensures { result ≡ is_sending engine.now }
+{
+    match engine {
+        Engine::Sending(_) => true,
+        Engine::Receiving(_) => false,
+        Engine::Following(_) => false,
     }
 }

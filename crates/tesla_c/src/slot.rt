@@ -92,13 +92,4 @@ impl Slot {
         let empty = mem::replace(self, Slot::of(Loose::of(engine)));
         empty.into_nothing();
     }
-
-    /// Drops what the slot holds, and leaves it empty.
-    pub(crate) fn close(&mut self, alloc: Global)
-        ensures { held_in self.new ≡ None }
-    {
-        if let Some(engine) = self.take(alloc) {
-            drop(engine);
-        }
-    }
 }
