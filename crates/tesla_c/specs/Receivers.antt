@@ -1,5 +1,5 @@
 -- Receivers in slots.
-use Rattle.std.specs.Prelude.{◌≡◌, ℕ, ℤ, List, [], Result, Ok, Err, nat_le, ◌&&◌, ◌==◌, ◌-◌, ◌^◌, if◌then◌else◌, take}
+use Rattle.std.specs.Prelude.{◌≡◌, ℕ, ℤ, Bool, true, false, List, [], Result, Ok, Err, nat_le, ◌&&◌, ◌==◌, ◌-◌, ◌^◌, if◌then◌else◌, take}
 use Rattle.std.specs.declared.option.Option.{Option}
 use Rattle.std.specs.declared.option.Option.TheVariants.{None, Some}
 use Rattle.tesla_commit.specs.Parts.{Parts}
@@ -17,25 +17,39 @@ use Rattle.tesla_c.specs.declared.answers.CHead.{CHead}
 use Rattle.tesla_c.specs.declared.engine.Engine.{Engine}
 use Rattle.tesla_c.specs.declared.opening.OpenRefusal.{OpenRefusal}
 use Rattle.tesla_c.specs.declared.opening.OpenRefusal.TheVariants as refusals
-use Rattle.tesla_c.specs.declared.engine.Engine.TheVariants.{Receiving}
+use Rattle.tesla_c.specs.declared.engine.Engine.TheVariants.{Receiving, Sending, Following}
 
 -- what was opened is a receiver of this configuration that stands for this history
 abbrev pub IsReceiver : Engine → Config → List Entry → Type 0
 IsReceiver (Receiving state) config history = (state.config ≡ config) × Stands state history
+IsReceiver (Sending state) config history = ⊥
+IsReceiver (Following state) config history = ⊥
 
 -- a slot holds such a receiver
 abbrev pub HasReceiver : Option Engine → Config → List Entry → Type 0
 HasReceiver None config history = ⊥
 HasReceiver (Some engine) config history = IsReceiver engine config history
 
--- how many calls were made of what was opened
-abbrev pub calls_of : Engine → ℕ
-calls_of (Receiving state) = state.calls
+-- the status of a call of a receiver that counts, but for what a take answers: what was opened is another, or so many calls were made of it
+abbrev pub counted_status : Engine → ℕ
+counted_status (Receiving state) = if state.calls == 2 ^ 64 - 1 then 5 else 0
+counted_status (Sending state) = 4
+counted_status (Following state) = 4
 
--- the status of a call that counts, but for what a take answers
+-- the same of what a slot holds
 abbrev pub call_status : Option Engine → ℕ
 call_status None = 4
-call_status (Some engine) = if calls_of engine == 2 ^ 64 - 1 then 5 else 0
+call_status (Some engine) = counted_status engine
+
+abbrev pub is_received : Engine → Bool
+is_received (Receiving state) = true
+is_received (Sending state) = false
+is_received (Following state) = false
+
+-- the status of a close: an empty slot stays as it is
+abbrev pub close_status : Option Engine → ℕ
+close_status None = 0
+close_status (Some engine) = if is_received engine then 0 else 4
 
 -- the numbers of an opening: 0, or the first that is outside its limits, as parameters count from 1
 abbrev pub bad_number : (capacity quota ingests : ℕ) → ℕ

@@ -9,11 +9,10 @@ ghost use Rattle.tesla_receiver.specs.Events.{waiting_in};
 ghost use Rattle.tesla_receiver.specs.History.{Arrives, Takes, Ends, entry_of, reply_to};
 ghost use Rattle.tesla_receiver.specs.Report.{report_of};
 ghost use Rattle.tesla_c.specs.Held.{held_in};
-ghost use Rattle.tesla_c.specs.Receivers.{HasReceiver, IsOpened, IsRefused, IsWanting, TellsReply, TellsVerdict, bad_number, call_status};
+ghost use Rattle.tesla_c.specs.Receivers.{HasReceiver, IsOpened, IsRefused, IsWanting, TellsReply, TellsVerdict, bad_number, call_status, close_status};
 ghost use Rattle.tesla_c.specs.Told.{report_told};
 
-use crate::answers::{CHead, CPayload, CRefusal, CReport, CVerdict, code_of, counts_of};
-use crate::engine::Engine;
+use crate::answers::{CHead, CPayload, CRefusal, CReport, CVerdict, code_of};
 use crate::opening::{OpenRefusal, bad_number, open};
 use crate::receiver;
 use crate::slot::Slot;
@@ -80,7 +79,7 @@ pub extern "C" fn tesla_receiver_open(
 }
 
 /// Judges a datagram of an ingest, with the reading of the receiver's clock in microseconds. It takes no memory. WRONG_SLOT: it
-/// is empty. SPENT: 2^64 - 1 calls were made.
+/// is empty, or it holds no receiver. SPENT: 2^64 - 1 calls were made.
 #[unsafe(no_mangle)]
 pub extern "C" fn tesla_receiver_arrive(
     alloc: Global,
@@ -120,11 +119,12 @@ pub extern "C" fn tesla_receiver_take(
     payload: &mut CPayload,
     head: &mut CHead,
 ) -> u32
-    ensures wrong { held_in slot.old ≡ None → result ≡ 4 }
+    ensures wrong { call_status (held_in slot.old) ≡ 4 → result ≡ 4 }
     ensures answer { result ≢ 5 → (config : Config) → (h : List Entry) → HasReceiver (held_in slot.old) config h → TellsReply (reply_to config h) result head.new payload.new.bytes }
     ensures stands { result ≢ 5 → (config : Config) → (h : List Entry) → HasReceiver (held_in slot.old) config h → HasReceiver (held_in slot.new) config (h ++ entry_of config h (Takes releaser) ∷ []) }
     ensures spent { result ≡ 5 → call_status (held_in slot.old) ≡ 5 }
     ensures same { result ≡ 5 → held_in slot.new ≡ held_in slot.old }
+    ensures other { result ≡ 4 → call_status (held_in slot.old) ≡ 4 }
     ensures none { result ≡ 4 → held_in slot.new ≡ held_in slot.old }
     ensures head { result ≢ 0 → head.new ≡ head.old }
 {
@@ -151,46 +151,52 @@ pub extern "C" fn tesla_receiver_end(alloc: Global, slot: &mut Slot, ingest: u8)
     status
 }
 
-/// Tells the counts of the history. WRONG_SLOT: it is empty.
+/// Tells the counts of the history. WRONG_SLOT: as of an arrival.
 #[unsafe(no_mangle)]
 pub extern "C" fn tesla_receiver_report(alloc: Global, slot: &mut Slot, report: &mut CReport) -> u32
-    ensures wrong { held_in slot.old ≡ None → result ≡ 4 }
+    ensures wrong { call_status (held_in slot.old) ≡ 4 → result ≡ 4 }
     ensures value { (config : Config) → (h : List Entry) → HasReceiver (held_in slot.old) config h → (result ≡ 0) × (report.new ≡ report_told (report_of h)) }
     ensures same { held_in slot.new ≡ held_in slot.old }
+    ensures told { result ≢ 0 → report.new ≡ report.old }
 {
     let Some(engine) = slot.take(alloc) else {
         return WRONG_SLOT;
     };
-    let Engine::Receiving(receiver) = &*engine;
-    *report = counts_of(&receiver.report());
+    let status = receiver::report(&engine, report);
     slot.put(engine);
-    OK
+    status
 }
 
-/// Tells how many released packets wait to be taken. WRONG_SLOT: it is empty.
+/// Tells how many released packets wait to be taken. WRONG_SLOT: as of an arrival.
 #[unsafe(no_mangle)]
 pub extern "C" fn tesla_receiver_waiting(alloc: Global, slot: &mut Slot, count: &mut u64) -> u32
-    ensures wrong { held_in slot.old ≡ None → result ≡ 4 }
+    ensures wrong { call_status (held_in slot.old) ≡ 4 → result ≡ 4 }
     ensures value { (config : Config) → (h : List Entry) → HasReceiver (held_in slot.old) config h → (result ≡ 0) × (count.new ≡ waiting_in config h) }
     ensures same { held_in slot.new ≡ held_in slot.old }
+    ensures told { result ≢ 0 → count.new ≡ count.old }
 {
     let Some(engine) = slot.take(alloc) else {
         return WRONG_SLOT;
     };
-    let Engine::Receiving(receiver) = &*engine;
-    *count = receiver.waiting();
+    let status = receiver::waiting(&engine, count);
     slot.put(engine);
-    OK
+    status
 }
 
-/// Closes what a slot holds, and gives all its memory back. An empty slot stays empty.
+/// Closes a receiver, and gives all its memory back. An empty slot stays empty. WRONG_SLOT: it is another's.
 #[unsafe(no_mangle)]
 pub extern "C" fn tesla_receiver_close(alloc: Global, slot: &mut Slot) -> u32
-    ensures status { result ≡ 0 }
-    ensures empty { held_in slot.new ≡ None }
+    ensures status { result ≡ close_status (held_in slot.old) }
+    ensures empty { result ≡ 0 → held_in slot.new ≡ None }
+    ensures same { result ≢ 0 → held_in slot.new ≡ held_in slot.old }
 {
-    if let Some(engine) = slot.take(alloc) {
+    let Some(engine) = slot.take(alloc) else {
+        return OK;
+    };
+    if receiver::is_received(&engine) {
         drop(engine);
+        return OK;
     }
-    OK
+    slot.put(engine);
+    WRONG_SLOT
 }
