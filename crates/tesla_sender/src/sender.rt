@@ -135,6 +135,13 @@ impl Sender {
         interval_at(self.setup.schedule(), reading)
     }
 
+    /// The interval of the last accepted call, or the one that it went on to: 0 before the first.
+    pub fn latest(&self) -> u64
+        ensures { result ≡ self.now.latest }
+    {
+        self.latest
+    }
+
     /// Whether on some chain a call in an interval tells a newer key than one in the interval `before`.
     pub fn tells_newer(&self, before: u64, interval: u64) -> bool
         ensures { result ≡ tells_newer before interval (chains_of self.now.stream) }

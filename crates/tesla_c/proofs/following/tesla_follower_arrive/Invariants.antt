@@ -1,0 +1,4 @@
+use Rattle.tesla_c.proofs.following.tesla_follower_arrive.Given as goal
+
+abbrev pub ghosts-arrive : goal.ghosts-arrive
+ghosts-arrive a = record { name = a.blank.name; parts = a.blank.parts }
