@@ -1,6 +1,5 @@
 -- What a sender stands for, by an equal stream.
-use Rattle.std.proofs.Common.{◌≡◌, ◌∙◌, ℕ, Result, List, refl, sym, ap, subst}
-use Rattle.tesla_frame.specs.Frame.{Frame}
+use Rattle.std.proofs.Common.{◌≡◌, ℕ, List, sym, subst}
 use Rattle.tesla_sender.specs.Made.{Call, Stream, made_disclosure, made_message}
 use Rattle.tesla_sender.specs.Stands.{Stands, State}
 use Rattle.tesla_c.specs.Senders.{TellsMade, ahead_of, disclosure_cause, message_cause}

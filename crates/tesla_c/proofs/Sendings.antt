@@ -1,15 +1,14 @@
 -- What calls of a sender tell, from what the sender answers.
-use Rattle.std.proofs.Common.{◌≡◌, ◌∙◌, ◌⊎◌, inl, inr, ℕ, ◌+◌, Option, Some, None, Result, Ok, Err, List, refl, sym, ap, subst}
+use Rattle.std.proofs.Common.{◌≡◌, ◌⊎◌, inl, inr, ℕ, ◌+◌, Option, Some, None, Result, Ok, Err, List, refl, ap}
 use Rattle.std.specs.Option.{option_map}
 use Rattle.tesla_base.specs.declared.names.ChainNo.{ChainNo}
 use Rattle.tesla_base.specs.declared.names.Key.{Key}
 use Rattle.tesla_frame.specs.Frame.{Frame}
 use Rattle.tesla_sender.specs.Chains.{wrong_seed}
-use Rattle.tesla_sender.specs.Made.{Call, Chain, Stream, made_disclosure, made_message}
+use Rattle.tesla_sender.specs.Made.{Chain}
 use Rattle.tesla_sender.specs.Stands.{Answers}
-use Rattle.tesla_sender.specs.declared.refusal.SenderRefusal.{SenderRefusal}
 use Rattle.tesla_sender.specs.declared.refusal.SenderRefusal.TheVariants as unopened_for
-use Rattle.tesla_c.specs.Senders.{IsWrongSeed, TellsMade, disclosure_cause, message_cause}
+use Rattle.tesla_c.specs.Senders.{IsWrongSeed, TellsMade}
 use Rattle.tesla_c.specs.declared.sender_answers.CCause.{CCause}
 
 -- a frame was made

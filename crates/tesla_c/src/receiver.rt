@@ -46,12 +46,7 @@ pub(crate) fn arrive<L: Ledger>(
 }
 
 // A take of a receiver.
-fn take_from(
-    receiver: &mut Receiver,
-    releaser: u8,
-    payload: &mut CPayload,
-    head: &mut CHead,
-) -> u32
+fn take_from(receiver: &mut Receiver, releaser: u8, payload: &mut CPayload, head: &mut CHead) -> u32
     ensures spent { result ≡ 5 → receiver.old.calls ≡ 2 ^ 64 - 1 }
     ensures answer { result ≢ 5 → (h : List Entry) → Stands receiver.old h → TellsReply (reply_to receiver.old.config h) result head.new payload.new.bytes }
     ensures stands { result ≢ 5 → (h : List Entry) → Stands receiver.old h → Stands receiver.new (h ++ entry_of receiver.old.config h (Takes releaser) ∷ []) }
