@@ -258,8 +258,8 @@ def of_losses(story):
                              for place, _, it in columns]))
     scale = over.scale(HIGH).replace("interval of the receiver's clock", "interval of the packets")
     lost, came = (sum(getattr(it, name) for _, _, it in columns) for name in ("lost", "came"))
-    words = (f'<span id="lost">{lost}</span> lost, {came} came. ' "Packets behind the last one of an interval that came aren't known, nor intervals of which "
-             "none did. Where packets of an interval were released, the last of these counts, and else the last that came.")
+    words = (f'<span id="lost">{lost}</span> lost, {came} came. '
+             "Packets behind the last one of an interval that came aren't known, nor intervals of which none did. Where packets of an interval were released, the last of these counts, and else the last that came.")
     rows = [(over.columns.named(first), it.came, it.lost) for place, first, it in columns]
     return figure("losses", svg("how many packets came and were lost, by interval", HIGH + 44, [*parts, scale]),
                   legend([("v9", "came"), ("v6", "lost")]) + " " + words,

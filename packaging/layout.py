@@ -9,16 +9,19 @@ TOP = os.path.dirname(HERE)
 PROGRAM = os.path.normpath(f"{HERE}/../crates/tesla/out/tesla")
 LIST = "share/tesla/installed"
 # What is written in the sources for the folder under which all is installed.
-WRITTEN = ("/usr/bin/tesla ", "/usr/libexec/tesla/")
+WRITTEN = ("/usr/bin/tesla ", "/usr/bin/tesla-status-to-prometheus ", "/usr/libexec/tesla/")
 
 # The pages of the guide, and those beside it that it names, below the top of the repository. They lie there as here, so that
 # the links between them lead to files.
 GUIDE = ["README.md", "docs/COSTS.md", "docs/FORMATS.md", "docs/LAWS.md", "docs/OPERATING.md", "docs/PROTOCOL.md", "docs/RECEIVER.md",
          "docs/TRUST.md", *sorted(glob.glob("docs/operating/*.md", root_dir=TOP))]
-MANUALS = ["tesla.1", "tesla-capture-to-pcap.1", "tesla-pcap-to-capture.1", "tesla-text-to-script.1", "tesla-join.1", "tesla-records.1",
+PICTURES = sorted(glob.glob("docs/operating/pictures/*.png", root_dir=TOP))
+MANUALS = ["tesla.1", "tesla-capture-to-pcap.1", "tesla-pcap-to-capture.1", "tesla-text-to-script.1", "tesla-join.1",
+           "tesla-trace-to-html.1", "tesla-status-to-prometheus.1", "tesla-records.1",
            "tesla-readers.3", "tesla-formats.5", "tesla-units.7", "tesla-wireshark.7"]
 # The scripts that are commands, and where they stand below the top of the repository.
-SCRIPTS = {**dict.fromkeys(("tesla-capture-to-pcap", "tesla-pcap-to-capture", "tesla-text-to-script", "tesla-join"), "converters"),
+SCRIPTS = {**dict.fromkeys(("tesla-capture-to-pcap", "tesla-pcap-to-capture", "tesla-text-to-script", "tesla-join", "tesla-trace-to-html",
+                             "tesla-status-to-prometheus"), "converters"),
            "tesla-records": "readers"}
 
 # A source below this folder, where it goes below the prefix, and its rights. In a path that ends with .gz it is compressed.
@@ -31,10 +34,14 @@ FILES = [
     ("systemd/tesla-receive@.socket", "lib/systemd/system/tesla-receive@.socket", 0o644),
     ("systemd/tesla-follow@.service", "lib/systemd/system/tesla-follow@.service", 0o644),
     ("systemd/tesla-feed@.service", "lib/systemd/system/tesla-feed@.service", 0o644),
+    ("systemd/tesla-prometheus@.service", "lib/systemd/system/tesla-prometheus@.service", 0o644),
+    ("systemd/tesla-prometheus@.timer", "lib/systemd/system/tesla-prometheus@.timer", 0o644),
     ("systemd/sinks", "libexec/tesla/sinks", 0o755),
     ("systemd/stream.env", "share/doc/tesla/examples/stream.env", 0o644),
     *((f"../crates/tesla/data/{name}", f"share/doc/tesla/examples/data/{name}", 0o644)
       for name in ("setup", "secret", "script", "capture")),
+    *((f"prometheus/{name}", f"share/tesla/prometheus/{name}", 0o644) for name in ("tesla.rules.yml", "tesla.rules.test.yml", "dashboard.json")),
+    *((f"../converters/{name}", f"share/tesla/converters/{name}", 0o644) for name in ("tesla_trace.py", "tesla_pictures.py")),
     ("../readers/tesla_release.h", "include/tesla_release.h", 0o644),
     ("../readers/tesla_order.h", "include/tesla_order.h", 0o644),
     ("../readers/tesla_once.h", "include/tesla_once.h", 0o644),
@@ -43,7 +50,7 @@ FILES = [
     ("../readers/tesla_once.py", "share/tesla/readers/tesla_once.py", 0o644),
     ("../readers/show.py", "share/tesla/readers/show.py", 0o755),
     ("../readers/show.c", "share/tesla/readers/show.c", 0o644),
-    *((f"../{page}", f"share/doc/tesla/{page}", 0o644) for page in GUIDE),
+    *((f"../{page}", f"share/doc/tesla/{page}", 0o644) for page in [*GUIDE, *PICTURES]),
     ("wireshark/tesla.lua", "lib/wireshark/plugins/tesla.lua", 0o644),
 ]
 # Where Debian wants something else.

@@ -1,6 +1,7 @@
 """Trials of tesla-trace-to-html: the numbers of its pages are those that are reckoned here of the same histories, by the model's definitions
 alone, and a browser shows them and lists the entries of an interval."""
 import html.parser
+import io
 import os
 import shutil
 import subprocess
@@ -11,14 +12,21 @@ from fractions import Fraction
 import browser
 import recorded
 from model import histories as told
-from model.frames import DataFrame, frame_of
+from model.captures import Way, records_drawn
+from model.frames import frame_of
 from model.listed import Listed
-from model.setups import judged
-from model.traces import answer_line, shown_line
+from model.setups import judged, setup_text
+from model.streams import Draw, capacity_drawn, lag_drawn, stream_drawn
+from model.traces import answer_line, shown_line, tail_text, trace_text
 from model.verdicts import VERDICTS
 
 HERE = os.path.dirname(os.path.abspath(__file__))
 CONVERTERS = os.path.dirname(HERE)
+sys.path.append(CONVERTERS)
+
+import tesla_pictures  # noqa: E402
+import tesla_trace  # noqa: E402
+
 FILES = ("tesla-trace-to-html", "tesla_trace.py", "tesla_pictures.py")
 NAMES, BINS = ("good", "late", "flood"), 40
 CFG = told.Config(recorded.STREAM.setup, recorded.LAG, recorded.CAPACITY, recorded.CAPACITY)
@@ -355,6 +363,41 @@ def of_wrong(check, wants):
         check.entered(f"a wrong script: {name}", [] if refused else ["no page of it is refused"])
 
 
+# ---- drawn histories
+
+def faults_of_drawn(number):
+    """What is wrong with what is counted of a drawn history, and of a tail of it: no verdict disagrees, and of the whole as many packets are
+    held at the end and were released by each chain as the model says."""
+    draw = Draw(number)
+    stream = stream_drawn(draw)
+    lag, (capacity, _, quota) = lag_drawn(draw, stream.setup.times), capacity_drawn(draw).partition("/")
+    cfg = told.Config(stream.setup, lag, int(capacity), int(quota or capacity))
+    history = told.played(cfg, records_drawn(draw, Way(draw, stream, lag)), True)
+    entries, arrivals = list(history), told.arrivals_in(cfg, history)
+    chains = [it.chain for it in told.released(cfg, arrivals)]
+    want = told.held_of(cfg, arrivals, told.given_in(cfg, history)), [chains.count(it) for it in range(len(stream.setup.rows))]
+    for first in (0, len(entries) // 2):
+        file = io.BytesIO(tail_text(first, entries[first:]) if first else trace_text(entries))
+        number, is_tail, place = tesla_trace.head_of(file)
+        story = tesla_trace.Story(tesla_trace.Setup(setup_text(stream.setup)), lag, is_tail, number)
+        try:
+            for entry in tesla_trace.entries_of(file, place):
+                story.entry(*entry)
+            story.end()
+            tesla_pictures.page_of(story)
+        except tesla_trace.Disagrees:
+            yield f"draw {number}, from entry {first} on: entry {story.entries} disagrees"
+            return
+        came = story.held.count, [it.count for it in story.held.waits]
+        if not first and came != want:
+            yield f"draw {number}: {came} and not {want}"
+
+
+def of_drawn(check):
+    """Drawn histories of drawn streams."""
+    check.entered("80 drawn histories", [line for number in range(80) for line in faults_of_drawn(number)])
+
+
 # ---- all
 
 REFUSED = {
@@ -405,5 +448,6 @@ def of_pages(check):
         check.entered(f"a page: {name}", faults_of_page(CONVERTERS, check.room, name, want))
     of_tails(check)
     of_words(check)
+    of_drawn(check)
     of_browser(check, wants)
     of_wrong(check, wants)
