@@ -3,7 +3,6 @@ answers to each arrival, and what the head of a frame is, is told by the second 
 import collections
 import pathlib
 import re
-import struct
 import subprocess
 import tempfile
 
@@ -14,7 +13,7 @@ from model.clock import Times
 from model.files import CAPTURE, SCRIPT, Arrives, Discloses, Sends, Takes, file_text, outline_of
 from model.frames import DataFrame, frame_of
 from model.histories import Arrival, Config, Ended, Taken
-from model.promises import MOST_PROMISES, promise_of
+from model.promises import promise_of
 from model.records import Accepted, early_in, follow_text, follows_in, marked_in
 from model.rolls import rolled, rolled_quickly
 from model.senders import stream_of
@@ -216,16 +215,15 @@ def rolls(draw, quick):
     return setup_text(stream.setup), lag, draw.choice((2, 4, 16, 4_096)), records
 
 
-def woven_files(program, draw):
-    """A setup and a capture of messages each of which promises a later one, with what waits taken behind each arrival."""
+def woven_records(program, draw, takes):
+    """A setup and the records of a capture of messages each of which promises a later one, with takes behind each arrival."""
     stream = stream_of(1, 0xa7, Times(1_000_000, 100_000, 8), 16, (1, 3), (bytes([7]) * 32, bytes([8]) * 32))
     script = [Sends(1_100_000 + 20_000 * at, draw.randbytes(draw.randrange(30))) for at in range(40)]
     files = {"setup": setup_text(stream.setup), "secret": seeds_text(stream.seeds),
              "script": file_text(SCRIPT, [*script, Discloses(2_300_000)])}
     _, held = program(files, f"weave setup script woven {draw.choice((6, 12, 25))}", "send setup secret woven capture")
     arrivals = [it for _, it in outline_of(CAPTURE, held["capture"])[0] if isinstance(it, Arrives) and draw.chance(0.9)]
-    records = [it for one in arrivals for it in (one, *[Takes()] * 45)]
-    return {"setup": files["setup"], "capture": file_text(CAPTURE, records)}
+    return files["setup"], [it for one in arrivals for it in (one, *[Takes()] * takes(draw))]
 
 
 def follow_cases(program):
@@ -240,8 +238,12 @@ def follow_cases(program):
             yield follow_case(f"drawn feed {number}, by roll", files, lag, capacity, wanted)
     assert left == 0
     for number in range(DRAWN // 4):
-        files = woven_files(program, Draw(f"{SEED} early {number}"))
+        setup, records = woven_records(program, Draw(f"{SEED} early {number}"), lambda draw: 45)
+        files = {"setup": setup, "capture": file_text(CAPTURE, records)}
         yield follow_case(f"drawn promises {number}, by early", files, 0, 64, by_early(program, files, 0, 64))
+        setup, records = woven_records(program, Draw(f"{SEED} few takes {number}"), lambda draw: draw.choice((0, 0, 1)))
+        files = {"setup": setup, "capture": file_text(CAPTURE, records)}
+        yield follow_case(f"drawn promises {number}, few takes", files, 0, 6, by_model(setup, 0, 6, records))
     yield from modelled_cases()
     equal = (DATA / "setup").read_bytes().replace(b"9ce5072017e83d06da080924aa2251a73ea445e5986eb68ca2d8fb6a3bf70ced",
                                                   b"d37e38b1539f22b758d1e34d417c1032bee6369ad6cd313ca36c4c745fa2a941")
@@ -307,10 +309,10 @@ def lag_case(program, name, ask, reply, key, drift):
 def lag_cases(program):
     """Exchanges that the program made, whole and altered."""
     key, wrong = bytes(range(32)), bytes(32)
-    (KEY := key.hex().encode() + b"\n")
+    text = key.hex().encode() + b"\n"
     for asked, replied, drift in ((5_000_000, 5_020_000, 10_000), (5_020_000, 5_000_000, 0), (0, 2 ** 63 - 1, 0), (0, 2 ** 63 - 1, 1),
                                   (2 ** 64 - 1, 0, 0), (2 ** 63, 0, 0), (0, 0, 2 ** 32 - 1)):
-        _, held = program({"key": KEY}, f"ask {asked} ask", f"reply ask key {replied} reply", f"ask {asked ^ 1} other")
+        _, held = program({"key": text}, f"ask {asked} ask", f"reply ask key {replied} reply", f"ask {asked ^ 1} other")
         ask, reply = held["ask"], held["reply"]
         name = f"asked at {asked}, replied at {replied}, drift {drift}"
         yield lag_case(program, name, ask, reply, key, drift)
