@@ -215,15 +215,15 @@ def rolls(draw, quick):
     return setup_text(stream.setup), lag, draw.choice((2, 4, 16, 4_096)), records
 
 
-def woven_records(program, draw, takes):
+def woven_records(program, draw, gap, takes):
     """A setup and the records of a capture of messages each of which promises a later one, with takes behind each arrival."""
     stream = stream_of(1, 0xa7, Times(1_000_000, 100_000, 8), 16, (1, 3), (bytes([7]) * 32, bytes([8]) * 32))
     script = [Sends(1_100_000 + 20_000 * at, draw.randbytes(draw.randrange(30))) for at in range(40)]
     files = {"setup": setup_text(stream.setup), "secret": seeds_text(stream.seeds),
              "script": file_text(SCRIPT, [*script, Discloses(2_300_000)])}
-    _, held = program(files, f"weave setup script woven {draw.choice((6, 12, 25))}", "send setup secret woven capture")
+    _, held = program(files, f"weave setup script woven {gap}", "send setup secret woven capture")
     arrivals = [it for _, it in outline_of(CAPTURE, held["capture"])[0] if isinstance(it, Arrives) and draw.chance(0.9)]
-    return files["setup"], [it for one in arrivals for it in (one, *[Takes()] * takes(draw))]
+    return files["setup"], [it for at, one in enumerate(arrivals) for it in (one, *[Takes()] * takes(at))]
 
 
 def follow_cases(program):
@@ -238,12 +238,12 @@ def follow_cases(program):
             yield follow_case(f"drawn feed {number}, by roll", files, lag, capacity, wanted)
     assert left == 0
     for number in range(DRAWN // 4):
-        setup, records = woven_records(program, Draw(f"{SEED} early {number}"), lambda draw: 45)
+        setup, records = woven_records(program, Draw(f"{SEED} early {number}"), 6 + 4 * number, lambda at: 45)
         files = {"setup": setup, "capture": file_text(CAPTURE, records)}
         yield follow_case(f"drawn promises {number}, by early", files, 0, 64, by_early(program, files, 0, 64))
-        setup, records = woven_records(program, Draw(f"{SEED} few takes {number}"), lambda draw: draw.choice((0, 0, 1)))
+        setup, records = woven_records(program, Draw(f"{SEED} few takes {number}"), 12, lambda at: int(at < 14 or at == 25))
         files = {"setup": setup, "capture": file_text(CAPTURE, records)}
-        yield follow_case(f"drawn promises {number}, few takes", files, 0, 6, by_model(setup, 0, 6, records))
+        yield follow_case(f"drawn promises {number}, few takes", files, 0, 3, by_model(setup, 0, 3, records))
     yield from modelled_cases()
     equal = (DATA / "setup").read_bytes().replace(b"9ce5072017e83d06da080924aa2251a73ea445e5986eb68ca2d8fb6a3bf70ced",
                                                   b"d37e38b1539f22b758d1e34d417c1032bee6369ad6cd313ca36c4c745fa2a941")
