@@ -1,10 +1,9 @@
 #!/usr/bin/env python3
 """Publishes a feed that comes to a multicast group to a broker of MQTT: gateway.py SETUP LAG GROUP PORT INTERFACE BROKER BROKER-PORT TOPIC
 
-It follows the feed from stream to stream, and publishes each message once, at most once: as soon as it is authentic, which is on its
-arrival where a message before promised it. What hands over isn't published. The setup is that of the first stream. It runs until
-SIGINT or SIGTERM comes. A broker is mosquitto of the Debian package of that name; of the protocol (MQTT 3.1.1) three packets are
-needed, which stand here.
+It follows the feed from stream to stream, and publishes each message once: as soon as it is authentic, which is on its arrival where a
+message before promised it. What hands over isn't published. The setup is that of the first stream. It runs until SIGINT or SIGTERM
+comes. A broker is mosquitto, a Debian package. Of its protocol, MQTT 3.1.1, three packets are needed, which stand here.
 """
 import selectors
 import signal
@@ -17,6 +16,8 @@ from clocks import receiver_reading
 from groups import joined
 
 HANDOVER = b"TNXT\1"
+# Of so many messages that were published early it is known that they were.
+MOST_EARLY = 65_536
 CONNECT, CONNACK, PUBLISH, DISCONNECT = 0x10, 0x20, 0x30, 0xE0
 
 
@@ -60,7 +61,7 @@ class Gateway:
     """What comes of a feed, and what was published of it before its key came."""
 
     def __init__(self, follower, broker, topic):
-        self.follower, self.broker, self.topic, self.early = follower, broker, topic.encode(), set()
+        self.follower, self.broker, self.topic, self.early = follower, broker, topic.encode(), {}
 
     def take_in(self, link):
         """Judges all that waits at the link, and publishes what that gives."""
@@ -77,9 +78,11 @@ class Gateway:
         """Publishes a record that is the first of its message."""
         name = record.epoch, record.interval, record.number
         if record.is_early:
-            self.early.add(name)
+            self.early[name] = None
+            if len(self.early) > MOST_EARLY:
+                del self.early[next(iter(self.early))]
         elif name in self.early:
-            self.early.remove(name)
+            del self.early[name]
             return
         if not record.payload.startswith(HANDOVER):
             self.broker.publish(self.topic, record.payload)
