@@ -13,7 +13,7 @@ WRITTEN = ("/usr/bin/tesla ", "/usr/bin/tesla-status-to-prometheus ", "/usr/libe
 
 # The pages of the guide, and those beside it that it names, below the top of the repository. They lie there as here, so that
 # the links between them lead to files.
-GUIDE = ["README.md", "docs/COSTS.md", "docs/FORMATS.md", "docs/LAWS.md", "docs/OPERATING.md", "docs/PROTOCOL.md", "docs/RECEIVER.md",
+GUIDE = ["README.md", "docs/COSTS.md", "docs/EMBEDDING.md", "docs/FORMATS.md", "docs/LAWS.md", "docs/OPERATING.md", "docs/PROTOCOL.md", "docs/RECEIVER.md",
          "docs/TRUST.md", *sorted(glob.glob("docs/operating/*.md", root_dir=TOP))]
 PICTURES = sorted(glob.glob("docs/operating/pictures/*.png", root_dir=TOP))
 MANUALS = ["tesla.1", "tesla-capture-to-pcap.1", "tesla-pcap-to-capture.1", "tesla-text-to-script.1", "tesla-join.1",

@@ -1,31 +1,14 @@
 """A receiver of one stream."""
 import ctypes
-import enum
-import threading
 from typing import Iterator, NamedTuple, Optional
 
-from ._library import (
-    CReport, CVerdict, EMPTY, Head, KINDS, OVER, REFUSED, BAD_NUMBER, Refusal, Refused, Slot, bytes_of, calls, failed, within)
+from ._errors import EMPTY, OVER, failed
+from ._held import TOP
+from ._library import bytes_of, calls
+from ._receiving import VERDICTS, Kind, Receiving, Report, check_numbers, report_of
+from ._structures import CReport, CVerdict, Head
 
-TOP = 1 << 64
-arrive_in, take_of, close_it = calls["receiver_arrive"], calls["receiver_take"], calls["receiver_close"]
-
-
-class Kind(enum.IntEnum):
-    """What is made of a datagram; DEFINITIONS.md says when."""
-    MALFORMED = 0
-    FOREIGN = 1
-    MISFIT = 2
-    FUTURE = 3
-    BADKEY = 4
-    LATE = 5
-    REPEAT = 6
-    FULL = 7
-    KEPT = 8
-    KEYS = 9
-
-
-_KINDS = tuple(Kind)
+arrive_in, take_of = calls["receiver_arrive"], calls["receiver_take"]
 
 
 class Verdict(NamedTuple):
@@ -46,23 +29,7 @@ class Message(NamedTuple):
     chain: int
 
 
-class Report(NamedTuple):
-    """How many datagrams arrived, how many had each verdict, and how many messages were given."""
-    arrivals: int
-    malformed: int
-    foreign: int
-    misfit: int
-    future: int
-    badkey: int
-    late: int
-    repeat: int
-    full: int
-    kept: int
-    keys: int
-    given: int
-
-
-class Receiver:
+class Receiver(Receiving):
     """A receiver of the stream of a setup.
 
     `setup` is the text of the setup; it has to come from its sender by a way that is trusted. `lag` is by how many microseconds
@@ -73,34 +40,22 @@ class Receiver:
     iterating over it gives the messages that are released now.
     """
 
+    _kind, _most = "receiver", 65_536
+
     def __init__(self, setup: bytes, lag: int, capacity: int = 4096, quota: Optional[int] = None, ingests: int = 1):
-        self._lock, self._slot, self._is_over = threading.Lock(), Slot(), False
-        self._at = ctypes.addressof(self._slot)
-        self._verdict, self._head, self._payload = CVerdict(), Head(), ctypes.create_string_buffer(1200)
-        self._places = tuple(map(ctypes.addressof, (self._verdict, self._payload, self._head)))
-        within("lag", lag, -(1 << 63), (1 << 63) - 1)
-        within("capacity", capacity, 1, 65_536)
-        quota = within("quota", capacity if quota is None else quota, 1, capacity)
-        within("ingests", ingests, 1, 255)
-        text, refusal = bytes_of(setup), Refusal()
-        status = calls["receiver_open"](self._at, text, len(text), lag, capacity, quota, ingests, refusal)
-        if status == REFUSED:
-            raise Refused("setup", refusal.line, KINDS[refusal.kind])
-        if status:
-            raise failed(status)
+        super().__init__(setup, lag, capacity, quota, ingests, CVerdict(), Head())
 
     def arrive(self, datagram: bytes, reading: int, ingest: int = 0) -> Verdict:
         """Judges a datagram that came to an ingest at this reading of the clock. Closed, Spent and BadNumber are raised."""
         if type(datagram) is not bytes:
             datagram = bytes_of(datagram)
         if not 0 <= reading < TOP or not 0 <= ingest < 256:
-            within("reading", reading, 0, TOP - 1)
-            within("ingest", ingest, 0, 255)
+            check_numbers(reading, ingest)
         it = self._verdict
         with self._lock:
             status = arrive_in(self._at, ingest, reading, datagram, len(datagram), self._places[0])
             if not status:
-                return Verdict(_KINDS[it.kind], it.chains, it.number)
+                return Verdict(VERDICTS[it.kind], it.chains, it.number)
         raise failed(status)
 
     def take(self) -> Optional[Message]:
@@ -120,51 +75,11 @@ class Receiver:
 
     def __iter__(self) -> Iterator[Message]:
         """The messages that wait now, and those that are released meanwhile."""
-        while True:
-            message = self.take()
-            if message is None:
-                return
+        while (message := self.take()) is not None:
             yield message
-
-    def end(self, ingest: int = 0) -> None:
-        """Says that nothing comes to an ingest any more."""
-        self._call("receiver_end", within("ingest", ingest, 0, 255))
-
-    @property
-    def is_over(self) -> bool:
-        """Whether a take found that every ingest has ended and no message waits."""
-        return self._is_over
-
-    @property
-    def waiting(self) -> int:
-        """How many released messages wait to be taken."""
-        count = ctypes.c_uint64()
-        self._call("receiver_waiting", count)
-        return count.value
 
     def report(self) -> Report:
         """The counts of all calls so far."""
         report = CReport()
-        self._call("receiver_report", report)
-        return Report(*(getattr(report, it) for it in Report._fields))
-
-    def close(self) -> None:
-        """Gives all memory back. What is closed stays closed."""
-        with self._lock:
-            close_it(self._at)
-
-    def _call(self, name, argument):
-        with self._lock:
-            status = calls[name](self._at, argument)
-        if status:
-            raise failed(status)
-
-    def __enter__(self) -> "Receiver":
-        return self
-
-    def __exit__(self, *_) -> None:
-        self.close()
-
-    def __del__(self) -> None:
-        if hasattr(self, "_at"):
-            close_it(self._at)
+        self._call("report", report)
+        return report_of(report)
