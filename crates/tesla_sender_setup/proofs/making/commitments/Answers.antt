@@ -1,5 +1,5 @@
-use Rattle.tesla_run_chain.proofs.Setups.{rows_next, cost_next}
-use Rattle.tesla_run_chain.proofs.making.commitments.Goals as goal
+use Rattle.tesla_sender_setup.proofs.Setups.{rows_next, cost_next}
+use Rattle.tesla_sender_setup.proofs.making.commitments.Goals as goal
 
 pub loop-chain-preserved : goal.loop-chain-preserved
 loop-chain-preserved g c = record {
