@@ -65,10 +65,15 @@ fn judged_setup(
 ) -> Result<Setup, SetupRefusal>
     ensures { Answers (λ setup. setup) result (parts_judged parameters.now.version parameters.now.stream parameters.now.schedule parameters.now.tag_length rows.now) }
 {
-    let (stream, schedule) = (parameters.stream, parameters.schedule);
     match parameters.version {
-        Version::One => Setup::new(alloc, stream, schedule, rows),
-        Version::Two => Setup::new2(alloc, stream, schedule, parameters.tag_length, rows),
+        Version::One => Setup::new(alloc, parameters.stream, parameters.schedule, rows),
+        Version::Two => Setup::new2(
+            alloc,
+            parameters.stream,
+            parameters.schedule,
+            parameters.tag_length,
+            rows,
+        ),
     }
 }
 
