@@ -1,5 +1,5 @@
 -- The setup that numbers and the text of seeds come to.
-use Rattle.std.specs.Prelude.{◌≡◌, ℕ, ◌+◌, ◌<◌, ◌≤◌, List, [], ◌∷◌, length, take, nat_le, ◌&&◌, if◌then◌else◌, Option, Some, None, Result, Ok, Err}
+use Rattle.std.specs.Prelude.{◌≡◌, ℕ, ◌+◌, ◌<◌, ◌≤◌, List, [], ◌∷◌, ◌++◌, length, take, nat_le, ◌&&◌, if◌then◌else◌, Option, Some, None, Result, Ok, Err}
 use Rattle.tesla_base.specs.Version.{longest_tag, most_chains, shortest_tag, version_of}
 use Rattle.tesla_base.specs.declared.names.Key.{Key}
 use Rattle.tesla_base.specs.declared.version.Version.{Version}
@@ -10,6 +10,7 @@ use Rattle.tesla_commit.specs.SetupText.{IsSetup, setup_text}
 use Rattle.tesla_frame.specs.Written.{Begins}
 use Rattle.tesla_seeds.specs.Judged.{seeds_judged}
 use Rattle.tesla_seeds.specs.declared.refusal.SeedsKind.{SeedsKind}
+use Rattle.tesla_sender_setup.specs.Delays.{RiseAbove}
 use Rattle.tesla_sender_setup.specs.Made.{setup_made}
 use Rattle.tesla_sender_setup.specs.Parameters.{StreamParameters}
 use Rattle.tesla_c.specs.Senders.{seeds_code}
@@ -39,6 +40,13 @@ abbrev pub delays_judged : (place before : ℕ) → List ℕ → Result (List �
 delays_judged place before [] = Ok []
 delays_judged place before (delay ∷ delays) =
     placed place (before + 1) 4096 delay >>= λ first. delays_judged (place + 1) first delays >>= λ others. Ok (first ∷ others)
+
+-- these delays are what is judged, behind those that stood there before
+pub record AddsDelays (place before : ℕ) (numbers old new more : List ℕ) : Type 0 where
+  pub judged : delays_judged place before numbers ≡ Ok more
+  pub added : new ≡ old ++ more
+  pub count : length more ≡ length numbers
+  pub rise : RiseAbove before more
 
 -- the length of tags and the delays in a version
 abbrev pub chains_judged : Version → CParameters → Result (ℕ × List ℕ) ℕ
@@ -85,11 +93,11 @@ IsUnmade made unopened.NoMemory = Unit {0}
 -- the text of the setup begins the room, the bytes behind it are as before, and size is its length
 pub record IsWrittenSetup (setup : Parts) (size : ℕ) (before now : List ℕ) : Type 0 where
   pub spelled : IsSetup (take size now) setup
-  pub length : size ≡ length (setup_text setup)
+  pub size_is : size ≡ length (setup_text setup)
   pub text : Begins (setup_text setup) before now
 
 -- the text of the setup has that length, and the room is shorter
 pub record IsTooLong (setup : Parts) (size : ℕ) (room : List ℕ) : Type 0 where
-  pub length : size ≡ length (setup_text setup)
+  pub size_is : size ≡ length (setup_text setup)
   pub short : length room < size
   pub most : size ≤ 4096

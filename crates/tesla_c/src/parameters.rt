@@ -1,10 +1,11 @@
 //! The parameters of a stream in numbers.
 
-ghost use Rattle.std.specs.Prelude.{◌≡◌, ◌+◌, ◌++◌, ◌≤◌, ◌×◌, length, List, ℕ, Ok, Err, MatchResult};
-ghost use Rattle.tesla_base.specs.Version.{version_of};
+ghost use Rattle.std.specs.Prelude.{◌≡◌, ◌+◌, ◌^◌, ◌<◌, ◌≤◌, length, List, ℕ, Err, IfOk, MatchResult};
+ghost use Rattle.tesla_base.specs.Version.{IsTagLength, version_of};
 ghost use Rattle.tesla_commit.specs.JudgedLines.{Says};
+ghost use Rattle.tesla_sender_setup.specs.Delays.{AreDelays};
 ghost use Rattle.tesla_sender_setup.specs.Parameters.{parameters_of};
-ghost use Rattle.tesla_c.specs.Making.{chains_judged, delays_judged, parameters_judged, placed, times_judged, version_judged};
+ghost use Rattle.tesla_c.specs.Making.{AddsDelays, chains_judged, delays_judged, parameters_judged, placed, times_judged, version_judged};
 
 use arrayvec::ArrayVec;
 use tesla_base::{StreamId, Version};
@@ -28,7 +29,8 @@ pub struct CParameters {
 
 // A number within limits, or its place.
 fn placed(place: u32, least: u64, most: u64, number: u64) -> Result<u64, u32>
-    ensures { result ≡ placed place least most number }
+    ensures value { result ≡ placed place least most number }
+    ensures within { IfOk result (λ it. (least ≤ it) × (it ≤ most)) }
 {
     if number < least || most < number {
         return Err(place);
@@ -46,6 +48,14 @@ fn schedule_in(it: &CParameters) -> Result<Schedule, u32>
         Some(schedule) => Ok(schedule),
         None => unreachable!(),
     }
+}
+
+// The number of the stream.
+fn stream_of(number: u64) -> StreamId
+    ensures value { result ≡ record { 0 = number } }
+    ensures fits { result.0 < 2 ^ 64 }
+{
+    StreamId(number)
 }
 
 // The version.
@@ -68,7 +78,7 @@ fn put_delays(
 ) -> Result<(), u32>
     requires room { length delays.old.items + length numbers.now ≤ 8 }
     requires places { place + length numbers.now ≤ 16 }
-    ensures { MatchResult result (λ _. (more : List ℕ) × (delays_judged place before numbers.now ≡ Ok more) × (delays.new.items ≡ delays.old.items ++ more)) (λ wrong. delays_judged place before numbers.now ≡ Err wrong) }
+    ensures { MatchResult result (λ _. (more : List ℕ) × AddsDelays place before numbers.now delays.old.items delays.new.items more) (λ wrong. delays_judged place before numbers.now ≡ Err wrong) }
 {
     let [first, others @ ..] = numbers else {
         return Ok(());
@@ -80,7 +90,8 @@ fn put_delays(
 
 // The length of tags and the delays in a version.
 fn chains_in(version: Version, it: &CParameters) -> Result<(u8, ArrayVec<u16, 8>), u32>
-    ensures { Says (λ chains. (chains.0, chains.1.items)) result (chains_judged version it.now) }
+    ensures value { Says (λ chains. (chains.0, chains.1.items)) result (chains_judged version it.now) }
+    ensures limits { IfOk result (λ chains. IsTagLength version chains.0 × AreDelays version chains.1.items) }
 {
     let (least, most) = (version.shortest_tag(), version.longest_tag());
     let size = placed(6, u64::from(least), u64::from(most), u64::from(it.tag_length))?;
@@ -96,12 +107,13 @@ fn chains_in(version: Version, it: &CParameters) -> Result<(u8, ArrayVec<u16, 8>
 pub(crate) fn parameters_in(it: &CParameters) -> Result<Parameters, u32>
     ensures { Says parameters_of result (parameters_judged it.now) }
 {
+    let stream = stream_of(it.stream);
     let schedule = schedule_in(it)?;
     let version = version_in(it.version)?;
     let (tag_length, delays) = chains_in(version, it)?;
     Ok(Parameters {
         version,
-        stream: StreamId(it.stream),
+        stream,
         schedule,
         tag_length,
         delays,
