@@ -94,7 +94,12 @@ fn chains_in(version: Version, it: &CParameters) -> Result<(u8, ArrayVec<u16, 8>
     ensures limits { IfOk result (λ chains. IsTagLength version chains.0 × AreDelays version chains.1.items) }
 {
     let (least, most) = (version.shortest_tag(), version.longest_tag());
-    let size = placed(6, u64::from(least), u64::from(most), u64::from(it.tag_length))?;
+    let size = placed(
+        6,
+        u64::from(least),
+        u64::from(most),
+        u64::from(it.tag_length),
+    )?;
     let most = u64::from(version.most_chains());
     let count = placed(7, 1, most, u64::from(it.chains))?;
     let mut delays = ArrayVec::new();
