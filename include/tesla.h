@@ -1,7 +1,8 @@
 /* libtesla: receivers and senders of TESLA streams (RFC 4082) for C99 and C++11.
  *
  * A slot is 16 bytes of the caller, begun with {0}. A call that opens fills it, and a close empties it and gives all memory
- * back. No call but an opening takes memory, and none waits, prints or reads a clock: datagrams and readings are passed in.
+ * back. No call but an opening and the making of a setup takes memory, and none waits, prints or reads a clock: datagrams and
+ * readings are passed in.
  *
  * What isn't checked: a pointer has to point to what its type says, and a length to be that of the bytes. A slot is never
  * copied or written, and has one call at a time: threads that share one hold a lock of their own around each call. malloc,
@@ -31,6 +32,7 @@ extern "C" {
 #define TESLA_EMPTY 6      /* no packet waits now */
 #define TESLA_OVER 7       /* no packet waits, and every ingest has ended */
 #define TESLA_NULL 8       /* a pointer is NULL: of the functions below alone */
+#define TESLA_TOO_SMALL 9  /* the text doesn't fit in the room: its size is told */
 
 /* Why an opening is refused. For TESLA_REFUSED the first refused line, from 1 on, or 0 for the whole text, and its kind; for
  * TESLA_BAD_NUMBER line is 4 for the capacity, 5 for the quota and 6 for the ingests, and kind is 0. */
@@ -103,7 +105,8 @@ typedef struct tesla_sender {
 
 /* Why no sender is opened, or no setup is made. text is 1 for the text of the setup and 2 for that of the seeds, and line its
  * first refused line, from 1 on, or 0 for the whole text; the seed of chain k has line k + 2. kind is a kind of tesla_refusal
- * for the setup, and one of the next for the seeds; chain is that of a wrong seed, and else 0. */
+ * for the setup, and one of the next for the seeds; chain is that of a wrong seed, and else 0. For TESLA_BAD_NUMBER line is the
+ * place of the field of tesla_parameters, and the others are 0. */
 typedef struct tesla_sender_refusal {
     uint32_t text;
     uint32_t line;
@@ -193,6 +196,22 @@ typedef struct tesla_setup {
     tesla_chain rows[8];
 } tesla_setup;
 
+/* What a setup is made of beside its seeds, as fields of tesla_setup, and the limits of each. start and stream are any numbers.
+ * delays has a delay for each chain, each above the one before; places behind the last chain aren't read. The places of the
+ * fields are 3 to 7 for those from interval to chains, and 8 + k for the delay of chain k. */
+typedef struct tesla_parameters {
+    uint64_t stream, start;
+    uint64_t interval;   /* 1000 to 3600000000 microseconds */
+    uint32_t last;       /* 1 to 1048576 */
+    uint32_t version;    /* 1 or 2 */
+    uint32_t tag_length; /* 16 in version 1, 10 to 32 in version 2 */
+    uint32_t chains;     /* 1 to 4 in version 1, 1 to 8 in version 2 */
+    uint32_t delays[8];  /* 1 to 4096 */
+} tesla_parameters;
+
+/* No text of a setup is longer. */
+#define TESLA_MOST_SETUP 4096
+
 /* The head of a frame: its stream, of a message its interval, its number and the bytes of its payload, its version and kind, of
  * a message the bytes of a tag, and how many keys it tells. */
 typedef struct tesla_frame {
@@ -249,6 +268,8 @@ uint32_t tesla_follower_report(tesla_follower *slot, tesla_follow_report *report
 uint32_t tesla_follower_waiting(tesla_follower *slot, uint64_t *count);
 uint32_t tesla_follower_close(tesla_follower *slot);
 uint32_t tesla_setup_read(const uint8_t *text, size_t length, tesla_setup *setup, tesla_refusal *refusal);
+uint32_t tesla_setup_make(const tesla_parameters *parameters, const uint8_t *seeds, size_t seeds_length, uint8_t *room,
+                          size_t room_length, size_t *size, tesla_sender_refusal *refusal);
 uint32_t tesla_frame_read(const uint8_t *datagram, size_t length, tesla_frame *frame);
 uint32_t tesla_lag_of(const tesla_shared_key *key, const uint8_t *ask, size_t ask_length, const uint8_t *reply,
                       size_t reply_length, uint32_t drift, int64_t *lag, uint32_t *kind);
@@ -391,6 +412,18 @@ static inline uint32_t tesla_follow_close(tesla_follower *slot) {
 static inline uint32_t tesla_read_setup(const uint8_t *text, size_t length, tesla_setup *setup, tesla_refusal *refusal) {
     if (!setup || !refusal || (!text && length)) return TESLA_NULL;
     return tesla_setup_read(text, length, setup, refusal);
+}
+
+/* Makes the setup of these parameters and of the seeds that the bytes spell, as many as there are chains: each chain commits to
+ * the key of index 0 to which its seed leads. Its text is written at the start of the room, and its size told; the bytes behind
+ * it stay. It takes time in proportion to the lengths of the chains, last evaluations of HMAC for each: a second or two for a
+ * chain of a million keys. The memory that it takes is given back. The first of TESLA_BAD_NUMBER, TESLA_REFUSED,
+ * TESLA_NO_MEMORY and TESLA_TOO_SMALL that applies is told, and the room stays; the last tells the size of the text, which is
+ * at most TESLA_MOST_SETUP. The seeds are the sender's secret: what is read of them isn't wiped from memory. */
+static inline uint32_t tesla_make_setup(const tesla_parameters *parameters, const uint8_t *seeds, size_t seeds_length,
+                                        uint8_t *room, size_t room_length, size_t *size, tesla_sender_refusal *refusal) {
+    if (!parameters || !size || !refusal || (!seeds && seeds_length) || (!room && room_length)) return TESLA_NULL;
+    return tesla_setup_make(parameters, seeds, seeds_length, room, room_length, size, refusal);
 }
 
 /* Reads the head of a frame, which proves nothing of it. TESLA_REFUSED: the datagram is no frame. */

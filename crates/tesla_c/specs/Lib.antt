@@ -4,4 +4,5 @@ pub mod Told
 pub mod Receivers
 pub mod Senders
 pub mod Pure
+pub mod Making
 pub mod Followers

@@ -19,7 +19,7 @@ use tesla_commit::{Setup, SetupRefusal, read_setup};
 use tesla_seeds::{Seeds, SeedsRefusal, read_seeds};
 use tesla_sender::{Sender, SenderRefusal};
 
-/// Why no sender is opened.
+/// Why no sender is opened, or no setup is made.
 #[derive(Drop)]
 pub enum Unopened {
     /// A text is refused, or a seed doesn't give the key of the setup.
@@ -28,7 +28,8 @@ pub enum Unopened {
     NoMemory,
 }
 
-fn refused(text: u32, line: u32, kind: u32, chain: u32) -> Unopened
+/// A refusal of a text.
+pub(crate) fn refused(text: u32, line: u32, kind: u32, chain: u32) -> Unopened
     ensures { result ≡ Unopened.Refused (record { text = text; line = line; kind = kind; chain = chain }) }
 {
     Unopened::Refused(CSenderRefusal {

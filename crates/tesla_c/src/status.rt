@@ -16,3 +16,5 @@ pub(crate) const SPENT: u32 = 5;
 pub(crate) const EMPTY: u32 = 6;
 /// No packet waits, and every ingest has ended.
 pub(crate) const OVER: u32 = 7;
+/// The text doesn't fit in the room: its size is told. (8 is the status of a NULL, which the header tests.)
+pub(crate) const TOO_SMALL: u32 = 9;

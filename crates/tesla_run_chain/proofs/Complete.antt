@@ -13,8 +13,9 @@ use Rattle.tesla_front.specs.Seeds.{IsNoSeeds, IsNoSeedsText, IsSeedsText}
 use Rattle.tesla_front.specs.declared.fault.Fault.{Fault}
 use Rattle.tesla_front.specs.declared.fault.Fault.TheVariants as faults
 use Rattle.tesla_run_chain.specs.Arguments.{ChainArguments}
-use Rattle.tesla_run_chain.specs.Chain.{DoesChain, WritesSetup, chain, chains_line, setup_made}
-use Rattle.tesla_run_chain.proofs.Setups.{rows_count}
+use Rattle.tesla_run_chain.specs.Chain.{DoesChain, WritesSetup, chain, chains_line}
+use Rattle.tesla_sender_setup.specs.Made.{setup_made}
+use Rattle.tesla_sender_setup.proofs.Setups.{rows_count}
 use Rattle.tesla_front.proofs.Commands.{memory_alone}
 
 -- seeds that a text spells are not refused
@@ -35,13 +36,13 @@ writing_ends setup count before after (Done lines) same writes = inl (ap Done (w
 writing_ends setup count before after (Failed fault) same writes = inr (fault, refl)
 writing_ends setup count before after _ same writes = absurd writes
 
-chain_ends : (arguments : ChainArguments) (opened : ℕ) (secret out read written : File) (outcome : OutcomeView) (text : List ℕ) (failed : Bool) (seeds : List Key) → secret.page ≡ Holds text failed → IsSeedsText (length arguments.delays) text seeds → DoesChain arguments opened (secret ∷ out ∷ []) (read ∷ written ∷ []) outcome → (outcome ≡ Done (chains_line (length arguments.delays))) ⊎ ((fault : Fault) × (outcome ≡ Failed fault))
-chain_ends arguments opened secret out read written outcome text failed seeds page found (inl lacks) = inr (lacking_ends (length arguments.delays) secret.page outcome text failed seeds page found lacks.why)
+chain_ends : (arguments : ChainArguments) (opened : ℕ) (secret out read written : File) (outcome : OutcomeView) (text : List ℕ) (failed : Bool) (seeds : List Key) → secret.page ≡ Holds text failed → IsSeedsText (length arguments.parameters.delays) text seeds → DoesChain arguments opened (secret ∷ out ∷ []) (read ∷ written ∷ []) outcome → (outcome ≡ Done (chains_line (length arguments.parameters.delays))) ⊎ ((fault : Fault) × (outcome ≡ Failed fault))
+chain_ends arguments opened secret out read written outcome text failed seeds page found (inl lacks) = inr (lacking_ends (length arguments.parameters.delays) secret.page outcome text failed seeds page found lacks.why)
 chain_ends arguments opened secret out read written outcome text failed seeds page found (inr makes) =
-    writing_ends (setup_made arguments makes.seeds) (length arguments.delays) out.page written.page outcome (rows_count arguments.times.last arguments.delays makes.seeds makes.count) makes.writes
+    writing_ends (setup_made arguments.parameters makes.seeds) (length arguments.parameters.delays) out.page written.page outcome (rows_count arguments.parameters.times.last arguments.parameters.delays makes.seeds makes.count) makes.writes
 
 -- a run of chain or chain2 comes to the number of chains, or to want of memory
-pub complete : (arguments : ChainArguments) (old new : Told) (outcome : OutcomeView) (text : List ℕ) (failed : Bool) (seeds : List Key) → Performs chain arguments old new outcome → old.page arguments.secret ≡ Holds text failed → IsSeedsText (length arguments.delays) text seeds → NothingFailed old.faults new.faults → (outcome ≡ Done (chains_line (length arguments.delays))) ⊎ (outcome ≡ Failed faults.NoMemory)
+pub complete : (arguments : ChainArguments) (old new : Told) (outcome : OutcomeView) (text : List ℕ) (failed : Bool) (seeds : List Key) → Performs chain arguments old new outcome → old.page arguments.secret ≡ Holds text failed → IsSeedsText (length arguments.parameters.delays) text seeds → NothingFailed old.faults new.faults → (outcome ≡ Done (chains_line (length arguments.parameters.delays))) ⊎ (outcome ≡ Failed faults.NoMemory)
 complete arguments old new outcome text failed seeds performs page found none =
     elim (chain_ends arguments performs.opened (file_told old arguments.secret) (file_told old arguments.out) (file_told new arguments.secret) (file_told new arguments.out) outcome text failed seeds page found performs.does) [
       | inl done ↦ inl done

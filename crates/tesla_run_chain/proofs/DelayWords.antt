@@ -2,7 +2,7 @@
 use Rattle.std.proofs.Common.{◌≡◌, ◌∙◌, ℕ, ◌+◌, ◌-◌, ◌≤◌, List, [], ◌∷◌, length, take, drop, get_or, map, decimal, refl, ap, arith}
 use Rattle.std.proofs.lemmas.List.{take_rest}
 use Rattle.tesla_front.specs.Words.{IsNumberWithin}
-use Rattle.tesla_run_chain.specs.Delays.{RiseAbove}
+use Rattle.tesla_sender_setup.specs.Delays.{RiseAbove}
 
 -- the first of some words spells the first delay, and the others the others
 pub record Begins {A : Type 0} (f : A → List ℕ) (words : List A) (first : A) (before : ℕ) (more : List ℕ) : Type 0 where

@@ -1,4 +1,3 @@
 pub mod DelayWords
-pub mod Setups
 pub mod Runs
 pub mod Complete

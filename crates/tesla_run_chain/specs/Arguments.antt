@@ -3,36 +3,24 @@ use Rattle.std.specs.Prelude.{◌≡◌, ◌≢◌, ◌<◌, ◌^◌, ℕ, List,
 use Rattle.std.specs.Int.{w64, to_be_bytes}
 use Rattle.hex.specs.Hex.{encode_lower}
 use Rattle.tesla_base.specs.Version.{IsTagLength}
-use Rattle.tesla_base.specs.declared.names.StreamId.{StreamId}
 use Rattle.tesla_base.specs.declared.version.Version.{Version}
 use Rattle.tesla_base.specs.declared.version.Version.TheVariants.{One, Two}
 use Rattle.tesla_clock.specs.Schedule.{Times, IsSchedule}
 use Rattle.tesla_desk.specs.Outside.{Opening, OfSource, OfSink}
 use Rattle.tesla_front.specs.Words.{IsName}
-use Rattle.tesla_run_chain.specs.Delays.{AreDelays}
+use Rattle.tesla_sender_setup.specs.Delays.{AreDelays}
+use Rattle.tesla_sender_setup.specs.Parameters.{StreamParameters, parameters_of}
 use Rattle.tesla_run_chain.specs.declared.arguments.Arguments.{Arguments}
 
--- the version, the names of the files, and what a setup of that version has beside its commitments
+-- the names of the files, and the parameters of the stream
 pub record ChainArguments : Type 0 where
-  pub version : Version
   pub out : List ℕ
   pub secret : List ℕ
-  pub stream : StreamId
-  pub times : Times
-  pub tag_length : ℕ
-  pub delays : List ℕ
+  pub parameters : StreamParameters
 
 -- what the words that were read ask for
 abbrev pub arguments_of : Arguments → ChainArguments
-arguments_of words = record {
-  version = words.version;
-  out = words.out.now;
-  secret = words.secret.now;
-  stream = words.stream;
-  times = words.schedule;
-  tag_length = words.tag_length;
-  delays = words.delays.items;
-}
+arguments_of words = record { out = words.out.now; secret = words.secret.now; parameters = parameters_of words.parameters }
 
 -- the command that makes a setup of the version
 abbrev pub command_of : Version → List ℕ
@@ -70,10 +58,10 @@ pub record IsChain (arguments : ChainArguments) (words : List (List ℕ)) : Type
   pub interval : List ℕ
   pub last : List ℕ
   pub chains : List (List ℕ)
-  pub spelled : words ≡ command_of arguments.version ∷ arguments.out ∷ arguments.secret ∷ encode_lower (to_be_bytes w64 arguments.stream.0) ∷ start ∷ interval ∷ last ∷ chains
-  pub stream : arguments.stream.0 < 2 ^ 64
-  pub times : AreTimes start interval last arguments.times
-  pub delays : AreChains arguments.version chains arguments.tag_length arguments.delays
+  pub spelled : words ≡ command_of arguments.parameters.version ∷ arguments.out ∷ arguments.secret ∷ encode_lower (to_be_bytes w64 arguments.parameters.stream.0) ∷ start ∷ interval ∷ last ∷ chains
+  pub stream : arguments.parameters.stream.0 < 2 ^ 64
+  pub times : AreTimes start interval last arguments.parameters.times
+  pub delays : AreChains arguments.parameters.version chains arguments.parameters.tag_length arguments.parameters.delays
   pub names : AreApart arguments.out arguments.secret
 
 -- the files of the command, in the order in which they are opened

@@ -3,7 +3,6 @@ use Rattle.std.specs.Prelude.{◌≡◌, ◌⊎◌, ◌≤◌, ℕ, List, [], �
 use Rattle.tesla_base.specs.declared.names.Key.{Key}
 use Rattle.tesla_commit.specs.Parts.{Parts}
 use Rattle.tesla_commit.specs.SetupText.{IsSetup, setup_text}
-use Rattle.tesla_commit.specs.declared.chain_row.ChainRow.{ChainRow}
 use Rattle.tesla_desk.specs.Outside.{Page}
 use Rattle.tesla_front.specs.OutcomeView.{OutcomeView, Done, Failed}
 use Rattle.tesla_front.specs.Command.{Command}
@@ -12,23 +11,8 @@ use Rattle.tesla_front.specs.Lines.{count_line}
 use Rattle.tesla_front.specs.Openings.{File}
 use Rattle.tesla_front.specs.Seeds.{IsSeedsIn, IsNoSeeds}
 use Rattle.tesla_front.specs.declared.fault.Fault.TheVariants as faults
-use Rattle.tesla_prf.specs.Keys.{walk}
 use Rattle.tesla_run_chain.specs.Arguments.{ChainArguments, IsChain, files_of_chain}
-
--- the chains of a stream: of each its delay and its commitment, the key of index 0 where the seed is the key of index last
-abbrev pub rows_of : ℕ → List ℕ → List Key → List ChainRow
-rows_of last [] seeds = []
-rows_of last (delay ∷ delays) [] = []
-rows_of last (delay ∷ delays) (seed ∷ seeds) = record { delay = delay; index = 0; key = walk seed last } ∷ rows_of last delays seeds
-
--- the setup of the words, with these chains
-abbrev pub setup_with : ChainArguments → List ChainRow → Parts
-setup_with arguments rows =
-    record { version = arguments.version; stream = arguments.stream; times = arguments.times; tag_length = arguments.tag_length; rows = rows }
-
--- the setup of the words, with the chains of these seeds
-abbrev pub setup_made : ChainArguments → List Key → Parts
-setup_made arguments seeds = setup_with arguments (rows_of arguments.times.last arguments.delays seeds)
+use Rattle.tesla_sender_setup.specs.Made.{setup_made}
 
 -- the line that tells how many chains there are
 abbrev pub chains_line : ℕ → List ℕ
@@ -46,14 +30,14 @@ WritesSetup setup before after _ = ⊥
 -- there are no such seeds in SECRET, and SETUP-OUT wasn't asked for
 pub record LacksSeeds (arguments : ChainArguments) (opened : ℕ) (secret : Page) (outcome : OutcomeView) : Type 0 where
   pub alone : opened ≤ 1
-  pub why : IsNoSeeds (length arguments.delays) secret outcome
+  pub why : IsNoSeeds (length arguments.parameters.delays) secret outcome
 
 -- from the seeds in SECRET the setup was made, and then written
 pub record MakesSetup (arguments : ChainArguments) (secret before after : Page) (outcome : OutcomeView) : Type 0 where
   pub seeds : List Key
-  pub count : length seeds ≡ length arguments.delays
-  pub found : IsSeedsIn (length arguments.delays) secret seeds
-  pub writes : WritesSetup (setup_made arguments seeds) before after outcome
+  pub count : length seeds ≡ length arguments.parameters.delays
+  pub found : IsSeedsIn (length arguments.parameters.delays) secret seeds
+  pub writes : WritesSetup (setup_made arguments.parameters seeds) before after outcome
 
 -- a run of the command, of which so many files were asked to be opened, with what is told of SECRET and SETUP-OUT before and after it, and what it came to
 abbrev pub DoesChain : ChainArguments → ℕ → List File → List File → OutcomeView → Type 0

@@ -1,4 +1,3 @@
 pub mod Arguments
-pub mod Delays
 pub mod Chain
 pub mod Usage

@@ -27,7 +27,7 @@ pub fn forms() -> [FormText; 2]
 pub fn completeness()
     ensures { (arguments : ChainArguments) (old new : Told) (outcome : OutcomeView) (text : List ℕ) (failed : Bool) (seeds : List Key) →
         Performs chain arguments old new outcome →
-        old.page arguments.secret ≡ Holds text failed → IsSeedsText (length arguments.delays) text seeds →
+        old.page arguments.secret ≡ Holds text failed → IsSeedsText (length arguments.parameters.delays) text seeds →
         NothingFailed old.faults new.faults →
-        (outcome ≡ Done (chains_line (length arguments.delays))) ⊎ (outcome ≡ Failed faults.NoMemory) }
+        (outcome ≡ Done (chains_line (length arguments.parameters.delays))) ⊎ (outcome ≡ Failed faults.NoMemory) }
 {}

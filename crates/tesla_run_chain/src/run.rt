@@ -7,7 +7,9 @@ ghost use Rattle.tesla_front.specs.Command.{Performs, RunsAs};
 ghost use Rattle.tesla_front.specs.Openings.{AreFiles, OpensSome};
 ghost use Rattle.tesla_front.specs.Refusal.{StopCauses};
 ghost use Rattle.tesla_run_chain.specs.Arguments.{arguments_of, files_of_chain};
-ghost use Rattle.tesla_run_chain.specs.Chain.{WritesSetup, chain, chains_line, setup_made};
+ghost use Rattle.tesla_run_chain.specs.Chain.{WritesSetup, chain, chains_line};
+ghost use Rattle.tesla_sender_setup.specs.Made.{setup_made};
+ghost use Rattle.tesla_sender_setup.specs.Parameters.{parameters_of};
 
 use crate::arguments::Arguments;
 use crate::making::setup_of;
@@ -42,7 +44,7 @@ fn perform<D: Desk>(alloc: Global, arguments: &Arguments<'_>, desk: &mut D) -> R
     ensures performs { Performs chain (arguments_of arguments.now) (D.told desk.old) (D.told desk.new) (result_view result) }
     ensures live { (D.told desk.new).live ≡ (D.told desk.old).live }
 {
-    let count = arguments.delays.len() as u8;
+    let count = arguments.parameters.delays.len() as u8;
     let seeds = seeds_under(alloc, arguments.secret, count, desk)?;
     write_made(alloc, arguments, &seeds, desk)
 }
@@ -54,15 +56,13 @@ fn write_made<D: Desk>(
     seeds: &Seeds,
     desk: &mut D,
 ) -> Result<Lines, Stop>
-    requires { length seeds.now ≡ length arguments.now.delays.items }
-    ensures writes { WritesSetup (setup_made (arguments_of arguments.now) seeds.now) ((D.told desk.old).page arguments.now.out.now) ((D.told desk.new).page arguments.now.out.now) (result_view result) }
+    requires { length seeds.now ≡ length arguments.now.parameters.delays.items }
+    ensures writes { WritesSetup (setup_made (parameters_of arguments.now.parameters) seeds.now) ((D.told desk.old).page arguments.now.out.now) ((D.told desk.new).page arguments.now.out.now) (result_view result) }
     ensures opens { OpensSome (OfSink arguments.now.out.now ∷ []) (D.told desk.old) (D.told desk.new) }
     ensures live { (D.told desk.new).live ≡ (D.told desk.old).live }
     ensures causes { StopCauses result (D.told desk.old).faults (D.told desk.new).faults }
 {
-    let Ok(setup) = setup_of(alloc, arguments, seeds) else {
-        return Err(Stop::Failed(Fault::NoMemory));
-    };
+    let setup = setup_of(alloc, &arguments.parameters, seeds);
     let Ok(text) = write_setup(alloc, &setup) else {
         return Err(Stop::Failed(Fault::NoMemory));
     };

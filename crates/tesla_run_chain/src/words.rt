@@ -4,13 +4,14 @@ ghost use Rattle.std.specs.Prelude.{◌≡◌, ◌+◌, ◌^◌, ◌<◌, ◌≤
 ghost use Rattle.tesla_base.specs.Version.{most_chains};
 ghost use Rattle.tesla_clock.specs.Schedule.{Times};
 ghost use Rattle.tesla_run_chain.specs.Arguments.{ChainArguments, AreApart, AreChains, AreTimes, IsChain, arguments_of, command_of};
-ghost use Rattle.tesla_run_chain.specs.Delays.{AreDelays, RiseAbove};
+ghost use Rattle.tesla_sender_setup.specs.Delays.{AreDelays, RiseAbove};
 
 use crate::arguments::Arguments;
 use arrayvec::ArrayVec;
 use tesla_base::Version;
 use tesla_clock::Schedule;
 use tesla_front::{is_name, number_in, stream_in};
+use tesla_sender_setup::Parameters;
 
 /// The name of the command that makes a setup of version 1.
 const CHAIN: &str = "chain";
@@ -161,13 +162,15 @@ fn arguments_from<'a>(
         return None;
     }
     Some(Arguments {
-        version,
         out,
         secret,
-        stream,
-        schedule,
-        tag_length,
-        delays,
+        parameters: Parameters {
+            version,
+            stream,
+            schedule,
+            tag_length,
+            delays,
+        },
     })
 }
 

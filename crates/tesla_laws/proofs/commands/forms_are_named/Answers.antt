@@ -23,7 +23,7 @@ both_named Two rest words old new outcome spelled runs = as_spelled command_of w
 pub returns-clause-commands : goal.returns-clause-commands
 returns-clause-commands c = (
   λ arguments words old new outcome is runs. (as_spelled command_of words _ old new outcome is.spelled runs).form arguments is,
-  λ arguments words old new outcome is runs. (both_named arguments.version _ words old new outcome is.spelled runs).form arguments is,
+  λ arguments words old new outcome is runs. (both_named arguments.parameters.version _ words old new outcome is.spelled runs).form arguments is,
   λ arguments words old new outcome is runs. (as_spelled command_of words _ old new outcome (begins_with_name (codes "send") words is.spelled) runs).form arguments is,
   λ arguments words old new outcome is runs. (as_spelled command_of words _ old new outcome (begins_with_name (codes "lag") words is) runs).form arguments is,
   λ arguments words old new outcome is runs. (as_spelled command_of words _ old new outcome (begins_with_name (codes "stress") words is) runs).form arguments is,

@@ -1,4 +1,4 @@
 use Rattle.tesla_run_chain.proofs.making.setup_of.Given as goal
 
-abbrev pub ghosts-committed : goal.ghosts-committed
-ghosts-committed a = record { name = a.blank.name; parts = a.blank.parts }
+abbrev pub ghosts-counted : goal.ghosts-counted
+ghosts-counted a = record { name = a.blank.name; parts = a.blank.parts }

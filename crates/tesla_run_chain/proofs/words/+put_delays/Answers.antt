@@ -1,7 +1,7 @@
 use Rattle.std.proofs.Common.{◌≡◌, ◌∙◌, ◌+◌, ◌∷◌, ◌++◌, [], List, ℕ, string_bytes, sym, ap, subst, arith, append_assoc}
 use Rattle.tesla_base.proofs.Prefixes.{some_is}
 use Rattle.tesla_front.specs.Words.{IsNumberWithin}
-use Rattle.tesla_run_chain.specs.Delays.{RiseAbove}
+use Rattle.tesla_sender_setup.specs.Delays.{RiseAbove}
 use Rattle.tesla_run_chain.proofs.DelayWords.{begins}
 use Rattle.tesla_run_chain.proofs.words.+put_delays.Goals as goal
 

@@ -1,5 +1,5 @@
 -- The setup that is made from seeds.
-use Rattle.std.proofs.Common.{◌≡◌, ◌∙◌, ◌⊎◌, inl, inr, ℕ, zero, suc, ◌+◌, ◌-◌, ◌*◌, ◌<◌, ◌≤◌, ◌^◌, List, [], ◌∷◌, ◌++◌, length, take, get_or, Some, Result, Ok, Err, refl, sym, ap, arith}
+use Rattle.std.proofs.Common.{◌≡◌, ◌∙◌, ℕ, zero, suc, ◌+◌, ◌-◌, ◌*◌, ◌<◌, ◌≤◌, ◌^◌, List, [], ◌∷◌, ◌++◌, length, take, get_or, Some, Result, Ok, Err, refl, sym, ap, arith}
 use Rattle.std.specs.List.{AllByRecursion, slice_get}
 use Rattle.std.proofs.lemmas.Option.{get_or_from_slice_get}
 use Rattle.std.proofs.lemmas.Bool.Decides.{nat_tests}
@@ -15,9 +15,9 @@ use Rattle.tesla_commit.specs.declared.refusal.SetupRefusal.{SetupRefusal}
 use Rattle.tesla_commit.specs.declared.refusal.SetupRefusal.TheVariants as refusals
 use Rattle.tesla_commit.proofs.RowLaws.{setup_again}
 use Rattle.tesla_prf.specs.Keys.{walk}
-use Rattle.tesla_run_chain.specs.Chain.{rows_of, setup_made}
-use Rattle.tesla_run_chain.specs.Arguments.{ChainArguments}
-use Rattle.tesla_run_chain.specs.Delays.{RiseAbove, AreDelays}
+use Rattle.tesla_sender_setup.specs.Made.{rows_of, setup_made}
+use Rattle.tesla_sender_setup.specs.Parameters.{StreamParameters}
+use Rattle.tesla_sender_setup.specs.Delays.{RiseAbove, AreDelays}
 
 -- ---- rows
 
@@ -69,10 +69,10 @@ rise_is last before (delay ∷ next ∷ delays) (seed ∷ other ∷ seeds) rise 
 
 -- ---- the setup
 
--- what the words and the seeds make is a setup
-pub setup_is : (arguments : ChainArguments) (seeds : List Key) → arguments.stream.0 < 2 ^ 64 → arguments.times.start < 2 ^ 64 → IsSchedule arguments.times → IsTagLength arguments.version arguments.tag_length → AreDelays arguments.version arguments.delays → length seeds ≡ length arguments.delays → IsSetupOf (setup_made arguments seeds)
-setup_is arguments seeds stream start times size delays same =
-    let count = rows_count arguments.times.last arguments.delays seeds same in
+-- what the parameters and the seeds make is a setup
+pub setup_is : (it : StreamParameters) (seeds : List Key) → it.stream.0 < 2 ^ 64 → it.times.start < 2 ^ 64 → IsSchedule it.times → IsTagLength it.version it.tag_length → AreDelays it.version it.delays → length seeds ≡ length it.delays → IsSetupOf (setup_made it seeds)
+setup_is it seeds stream start times size delays same =
+    let count = rows_count it.times.last it.delays seeds same in
     let some = delays.some in
     let few = delays.few in
     record {
@@ -82,8 +82,8 @@ setup_is arguments seeds stream start times size delays same =
       tag_length = size;
       some = omega arith;
       few = omega arith;
-      each = each_is arguments.times.last 0 arguments.delays seeds delays.rise;
-      rise = rise_is arguments.times.last 0 arguments.delays seeds delays.rise;
+      each = each_is it.times.last 0 it.delays seeds delays.rise;
+      rise = rise_is it.times.last 0 it.delays seeds delays.rise;
     }
 
 within_again : (low high n : ℕ) → low ≤ n → n ≤ high → within low high n ≡ Ok n
@@ -94,19 +94,11 @@ parts_again : (parts : Parts) → IsSetupOf parts → parts_judged parts.version
 unfolding parts_judged
 parts_again parts is = rw (within_again (shortest_tag parts.version) (longest_tag parts.version) parts.tag_length is.tag_length.shortest is.tag_length.longest, setup_again parts is) refl
 
-answered_by : (parts : Parts) (result : Result Parts SetupRefusal) (judged : Result Parts (ℕ × SetupKind)) → judged ≡ Ok parts → Answers (λ setup. setup) result judged → (result ≡ Ok parts) ⊎ (result ≡ Err refusals.NoMemory)
-answered_by parts (Ok setup) judged e answers = inl (let both : Ok parts ≡ Ok setup = sym e ∙ answers in cc)
+answered_by : (parts : Parts) (result : Result Parts SetupRefusal) (judged : Result Parts (ℕ × SetupKind)) → judged ≡ Ok parts → Answers (λ setup. setup) result judged → result ≡ Ok parts
+answered_by parts (Ok setup) judged e answers = let both : Ok parts ≡ Ok setup = sym e ∙ answers in cc
 answered_by parts (Err (refusals.At line kind)) judged e answers = absurd (let no : Ok parts ≡ Err (line, kind) = sym e ∙ answers in cc)
-answered_by parts (Err refusals.NoMemory) judged e answers = inr refl
+answered_by parts (Err refusals.NoMemory) judged e answers = absurd answers
 
--- they are the setup, or memory was wanting
-pub answered : (parts : Parts) (result : Result Parts SetupRefusal) → IsSetupOf parts → Answers (λ setup. setup) result (parts_judged parts.version parts.stream parts.times parts.tag_length parts.rows) → (result ≡ Ok parts) ⊎ (result ≡ Err refusals.NoMemory)
+-- they are the setup
+pub answered : (parts : Parts) (result : Result Parts SetupRefusal) → IsSetupOf parts → Answers (λ setup. setup) result (parts_judged parts.version parts.stream parts.times parts.tag_length parts.rows) → result ≡ Ok parts
 answered parts result is answers = answered_by parts result _ (parts_again parts is) answers
-
-pub no_line : (parts : Parts) (result : Result Parts SetupRefusal) (line : ℕ) (kind : SetupKind) → (result ≡ Ok parts) ⊎ (result ≡ Err refusals.NoMemory) → result ≡ Err (refusals.At line kind) → ⊥
-no_line parts result line kind (inl ok) refused = cc
-no_line parts result line kind (inr none) refused = cc
-
-pub the_setup : (parts setup : Parts) (result : Result Parts SetupRefusal) → (result ≡ Ok parts) ⊎ (result ≡ Err refusals.NoMemory) → result ≡ Ok setup → setup ≡ parts
-the_setup parts setup result (inl ok) is = cc
-the_setup parts setup result (inr none) is = absurd cc

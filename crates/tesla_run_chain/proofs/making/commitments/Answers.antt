@@ -1,8 +1,0 @@
-use Rattle.tesla_run_chain.proofs.Setups.{rows_next, cost_next}
-use Rattle.tesla_run_chain.proofs.making.commitments.Goals as goal
-
-pub loop-chain-preserved : goal.loop-chain-preserved
-loop-chain-preserved g c = record {
-  rows = rows_next c.args.last c.loop-chain.chain c.args.delays.now c.args.seeds.now _ _ _ _ c.loop-chain-test.true c.requires.count c.get.ensures.value c.key_at.ensures.value c.loop-chain.invariant.rows c.in_ok-push.ensures.items;
-  cost = cost_next c.args.last c.loop-chain.chain c.args.steps.now c.loop-chain.steps c.key_at.new.steps c.loop-chain.invariant.cost c.key_at.ensures.cost;
-}
