@@ -53,15 +53,15 @@ pub(crate) fn take(
     engine: &mut Engine,
     releaser: u8,
     payload: &mut CPayload,
-    record: &mut CRecord,
+    written: &mut CRecord,
 ) -> u32
     ensures refused { followed_status engine.old ≢ 0 → result ≡ followed_status engine.old }
     ensures counted { followed_status engine.old ≡ 0 → (result ≢ 4) × (result ≢ 5) }
-    ensures answer { (config : Config) → (h : List FollowEntry) → IsFollower engine.old config h → result ≢ 5 → TellsTaken (entry_of config (followed config h) (Takes releaser)) result record.new payload.new.bytes }
+    ensures answer { (config : Config) → (h : List FollowEntry) → IsFollower engine.old config h → result ≢ 5 → TellsTaken (entry_of config (followed config h) (Takes releaser)) result written.new payload.new.bytes }
     ensures stands { (config : Config) → (h : List FollowEntry) → IsFollower engine.old config h → result ≢ 5 → IsFollower engine.new config (h ++ entry_of config (followed config h) (Takes releaser) ∷ []) }
     ensures same { followed_status engine.old ≢ 0 → engine.new ≡ engine.old }
-    ensures record { result ≢ 0 → (record.new ≡ record.old) × (payload.new ≡ payload.old) }
-    ensures behind { result ≡ 0 → (record.new.length ≤ 1200) × (drop record.new.length payload.new.bytes ≡ drop record.new.length payload.old.bytes) }
+    ensures written { result ≢ 0 → (written.new ≡ written.old) × (payload.new ≡ payload.old) }
+    ensures behind { result ≡ 0 → (written.new.length ≤ 1200) × (drop written.new.length payload.new.bytes ≡ drop written.new.length payload.old.bytes) }
 {
     let Engine::Following(follower) = engine else {
         return WRONG_SLOT;
@@ -71,11 +71,11 @@ pub(crate) fn take(
     }
     match follower.take(releaser, &mut payload.bytes) {
         FollowTake::Released { epoch, head, .. } => {
-            *record = record_of(0, epoch, &head);
+            *written = record_of(0, epoch, &head);
             OK
         }
         FollowTake::Early { epoch, head } => {
-            *record = record_of(1, epoch, &head);
+            *written = record_of(1, epoch, &head);
             OK
         }
         FollowTake::Empty => EMPTY,

@@ -107,19 +107,19 @@ pub extern "C" fn tesla_follower_take(
     slot: &mut Slot,
     releaser: u8,
     payload: &mut CPayload,
-    record: &mut CRecord,
+    written: &mut CRecord,
 ) -> u32
     ensures refused { follow_status (held_in slot.old) ≢ 0 → (result ≡ follow_status (held_in slot.old)) × (held_in slot.new ≡ held_in slot.old) }
     ensures counted { follow_status (held_in slot.old) ≡ 0 → (result ≢ 4) × (result ≢ 5) }
-    ensures answer { (config : Config) → (h : List FollowEntry) → HasFollower (held_in slot.old) config h → result ≢ 5 → TellsTaken (entry_of config (followed config h) (Takes releaser)) result record.new payload.new.bytes }
+    ensures answer { (config : Config) → (h : List FollowEntry) → HasFollower (held_in slot.old) config h → result ≢ 5 → TellsTaken (entry_of config (followed config h) (Takes releaser)) result written.new payload.new.bytes }
     ensures stands { (config : Config) → (h : List FollowEntry) → HasFollower (held_in slot.old) config h → result ≢ 5 → HasFollower (held_in slot.new) config (h ++ entry_of config (followed config h) (Takes releaser) ∷ []) }
-    ensures record { result ≢ 0 → (record.new ≡ record.old) × (payload.new ≡ payload.old) }
-    ensures behind { result ≡ 0 → (record.new.length ≤ 1200) × (drop record.new.length payload.new.bytes ≡ drop record.new.length payload.old.bytes) }
+    ensures written { result ≢ 0 → (written.new ≡ written.old) × (payload.new ≡ payload.old) }
+    ensures behind { result ≡ 0 → (written.new.length ≤ 1200) × (drop written.new.length payload.new.bytes ≡ drop written.new.length payload.old.bytes) }
 {
     let Some(mut engine) = slot.take(alloc) else {
         return WRONG_SLOT;
     };
-    let status = follower::take(&mut engine, releaser, payload, record);
+    let status = follower::take(&mut engine, releaser, payload, written);
     slot.put(engine);
     status
 }
