@@ -1,0 +1,4 @@
+//! One small history, worked through: trial.
+#![tactic(auto)]
+
+pub mod laws;
