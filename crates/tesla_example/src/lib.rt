@@ -1,4 +1,4 @@
-//! One small history, worked through: trial.
+//! A history of three packets, and the definitions of a receiver applied to it, step by step.
 #![tactic(auto)]
 
 pub mod laws;
