@@ -13,4 +13,4 @@ use Rattle.tesla_example.proofs.laws.legal.Goals as goal
 
 pub returns : goal.returns
 unfolding sha256 digest_bytes hash_after compress rounds schedule first_words hmac_of walk bound_of key_at optional_key_at tag_row_at byte_at rows_at byte_within tag_length_at payload_at data_of body_of version_at frame_of newest fresh_keys candidates released held_of verdict_of reply_to
-returns c = (refl, refl, refl, refl, refl, refl, tt)
+returns c = (refl, (refl, (refl, (refl, (refl, (refl, tt))))))
