@@ -60,7 +60,7 @@ class Spec:
             for name in (it.strip() for it in names.split(",")):
                 if name:
                     given, _, own = name.partition(" as ")
-                    (self.names.setdefault((own or given).strip(), (module, given.strip())))
+                    self.names.setdefault((own or given).strip(), (module, given.strip()))
                     if line.lstrip().startswith("pub use"):
                         self.passed[(own or given).strip()] = (module, given.strip())
 
@@ -79,11 +79,6 @@ def spec_of(module):
     crate, _, rest = module.partition(".specs.")
     path = f"{TOP}/crates/{crate}/specs/{rest.replace('.', '/')}.antt"
     return Spec(path) if os.path.isfile(path) else None
-
-
-def places():
-    for path in sorted(glob.glob(f"{TOP}/crates/*/src/**/*.rt", recursive=True)):
-        yield path
 
 
 @functools.lru_cache(maxsize=None)
@@ -112,6 +107,7 @@ class Closure:
         self.files = {}
         self.edges = {}
         self.toolchain = set()
+        self.lost = set()
         self.left = []
 
     def from_contract(self, path, function):
@@ -154,18 +150,22 @@ class Closure:
             self.reach(*spec.passed[name], source)
             return
         if name not in spec.parts:
-            name = next((it for it in spec.parts if name in constructors(spec.text_of(it))), None)
+            wanted, name = name, next((it for it in spec.parts if name in constructors(spec.text_of(it))), None)
             if name is None:
+                self.lost.add(f"{module}.{wanted}")
                 return
         self.enter(("spec", module, name), spec.path, source)
 
     def reach_type(self, crate, module, name, source):
         last = [it for it in module.split(".declared.")[1].split(".") if it != "TheVariants"]
         types = types_in(crate)
+        if not types:
+            return
         for one in (last[-1], name):
             if one in types:
                 self.enter(("type", crate, one), types[one][0], source)
                 return
+        self.lost.add(f"{module}.{name}")
 
     def enter(self, key, path, source):
         if source and source != path:
