@@ -34,18 +34,18 @@ use Rattle.tesla_receiver.proofs.NewKeys.{none_contained}
 
 -- ---- the release that a take gave
 
-record GivesRelease (arrivals : List Arrival) (position : ℕ) (waiting : Option Release) (head : Head) (payload : List ℕ) : Type 0 where
-  release : Release
-  waits : waiting ≡ Some release
-  head_is : head ≡ head_of position release (payload_of (slice_get arrivals release.place))
-  payload_is : payload ≡ payload_of (slice_get arrivals release.place)
+pub record GivesRelease (arrivals : List Arrival) (position : ℕ) (waiting : Option Release) (head : Head) (payload : List ℕ) : Type 0 where
+  pub release : Release
+  pub waits : waiting ≡ Some release
+  pub head_is : head ≡ head_of position release (payload_of (slice_get arrivals release.place))
+  pub payload_is : payload ≡ payload_of (slice_get arrivals release.place)
 
 gives_release : (arrivals : List Arrival) (position : ℕ) (waiting : Option Release) (over : Bool) (head : Head) (payload : List ℕ) → Given head payload ≡ reply_with arrivals position waiting over → GivesRelease arrivals position waiting head payload
 gives_release arrivals position (Some release) over head payload e = record { release = release; waits = refl; head_is = cc; payload_is = cc }
 gives_release arrivals position None true head payload e = absurd (cc)
 gives_release arrivals position None false head payload e = absurd (cc)
 
-reply_gives : (cfg : Config) (h : List Entry) (head : Head) (payload : List ℕ) → Given head payload ≡ reply_to cfg h → GivesRelease (arrivals_in h) (given_in h) (slice_get (released cfg (arrivals_in h)) (given_in h)) head payload
+pub reply_gives : (cfg : Config) (h : List Entry) (head : Head) (payload : List ℕ) → Given head payload ≡ reply_to cfg h → GivesRelease (arrivals_in h) (given_in h) (slice_get (released cfg (arrivals_in h)) (given_in h)) head payload
 unfolding reply_to
 reply_gives cfg h head payload e =
     gives_release (arrivals_in h) (given_in h) (slice_get (released cfg (arrivals_in h)) (given_in h)) (list_all (has_end h) (range_with_len 0 cfg.ingests)) head payload e
@@ -185,7 +185,7 @@ authentic_release kept_safe new_taken cfg h head payload legal gives =
     }
 
 -- an entry that gives, by the one answer
-given_by : (cfg : Config) (before : List Entry) (releaser : ℕ) (head : Head) (payload : List ℕ) → Taken releaser (Given head payload) ≡ entry_of cfg before (Takes releaser) → Given head payload ≡ reply_to cfg before
+pub given_by : (cfg : Config) (before : List Entry) (releaser : ℕ) (head : Head) (payload : List ℕ) → Taken releaser (Given head payload) ≡ entry_of cfg before (Takes releaser) → Given head payload ≡ reply_to cfg before
 given_by cfg before releaser head payload e = cc
 
 pub authentic : ((cfg : Config) (h : List Entry) → IsLegal cfg h → (n : ℕ) (e : Entry) → slice_get h n ≡ Some e → e ≡ entry_of cfg (take n h) (event_of e))

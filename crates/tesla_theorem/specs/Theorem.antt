@@ -47,3 +47,10 @@ abbrev pub GivenAreAuthentic : Type 0
 GivenAreAuthentic =
     (cfg : Config) (h : List Entry) (n releaser : ℕ) (head : Head) (payload : List ℕ) → IsLegal cfg h →
     slice_get h n ≡ Some (Taken releaser (Given head payload)) → IsAuthentic cfg (arrivals_in (take n h)) head payload
+
+-- No two packets of one name are given.
+abbrev pub GivenOnce : Type 0
+GivenOnce =
+    (cfg : Config) (h : List Entry) (m n first_by then_by : ℕ) (first second : Head) (first_payload then_payload : List ℕ) → IsLegal cfg h → m < n →
+    slice_get h m ≡ Some (Taken first_by (Given first first_payload)) → slice_get h n ≡ Some (Taken then_by (Given second then_payload)) →
+    first.interval ≡ second.interval → first.number ≡ second.number → ⊥
