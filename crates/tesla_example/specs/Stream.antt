@@ -10,15 +10,19 @@ use Rattle.tesla_frame.specs.declared.row.KeyRow.{KeyRow}
 
 -- K 1, the key of interval 1, which the sender discloses in interval 3
 abbrev pub key_1 : Key
-key_1 = record { 0 =
-    0x43 ∷ 0xda ∷ 0x7d ∷ 0x5b ∷ 0x7e ∷ 0x12 ∷ 0x8d ∷ 0x38 ∷ 0xf5 ∷ 0x35 ∷ 0xff ∷ 0xd3 ∷ 0x9b ∷ 0x67 ∷ 0x66 ∷ 0x05 ∷
-    0x84 ∷ 0xc9 ∷ 0x58 ∷ 0xc3 ∷ 0xc7 ∷ 0xe8 ∷ 0xb9 ∷ 0x91 ∷ 0x6a ∷ 0xa6 ∷ 0x20 ∷ 0x55 ∷ 0x97 ∷ 0x9d ∷ 0xa7 ∷ 0xb5 ∷ [] }
+key_1 = record {
+  0 =
+      0x43 ∷ 0xda ∷ 0x7d ∷ 0x5b ∷ 0x7e ∷ 0x12 ∷ 0x8d ∷ 0x38 ∷ 0xf5 ∷ 0x35 ∷ 0xff ∷ 0xd3 ∷ 0x9b ∷ 0x67 ∷ 0x66 ∷ 0x05 ∷
+      0x84 ∷ 0xc9 ∷ 0x58 ∷ 0xc3 ∷ 0xc7 ∷ 0xe8 ∷ 0xb9 ∷ 0x91 ∷ 0x6a ∷ 0xa6 ∷ 0x20 ∷ 0x55 ∷ 0x97 ∷ 0x9d ∷ 0xa7 ∷ 0xb5 ∷ [];
+}
 
 -- K 0, to which the setup commits
 abbrev pub key_0 : Key
-key_0 = record { 0 =
-    0xe2 ∷ 0xb8 ∷ 0xe3 ∷ 0x53 ∷ 0x0f ∷ 0x11 ∷ 0xa5 ∷ 0xf9 ∷ 0xc7 ∷ 0x9e ∷ 0x48 ∷ 0xb1 ∷ 0xfe ∷ 0x32 ∷ 0x45 ∷ 0x35 ∷
-    0xd9 ∷ 0xee ∷ 0xd9 ∷ 0x27 ∷ 0x48 ∷ 0x84 ∷ 0x68 ∷ 0xe4 ∷ 0x43 ∷ 0x90 ∷ 0x59 ∷ 0x64 ∷ 0xc7 ∷ 0x28 ∷ 0x0e ∷ 0x8a ∷ [] }
+key_0 = record {
+  0 =
+      0xe2 ∷ 0xb8 ∷ 0xe3 ∷ 0x53 ∷ 0x0f ∷ 0x11 ∷ 0xa5 ∷ 0xf9 ∷ 0xc7 ∷ 0x9e ∷ 0x48 ∷ 0xb1 ∷ 0xfe ∷ 0x32 ∷ 0x45 ∷ 0x35 ∷
+      0xd9 ∷ 0xee ∷ 0xd9 ∷ 0x27 ∷ 0x48 ∷ 0x84 ∷ 0x68 ∷ 0xe4 ∷ 0x43 ∷ 0x90 ∷ 0x59 ∷ 0x64 ∷ 0xc7 ∷ 0x28 ∷ 0x0e ∷ 0x8a ∷ [];
+}
 
 abbrev pub stream : StreamId
 stream = record { 0 = 0xa7 }
@@ -59,22 +63,34 @@ third_tag = 0x47 ∷ 0xc9 ∷ 0xfc ∷ 0xe1 ∷ 0x9c ∷ 0xfd ∷ 0x3c ∷ 0x2c 
 -- the sender's message 0 of interval 1
 abbrev pub first : DataFrame
 first = record {
-  version = One; stream = stream; name = record { interval = 1; number = 0 }; payload = codes "hi";
-  tag_length = 16; rows = record { tag = first_tag; key = None } ∷ [];
+  version = One;
+  stream = stream;
+  name = record { interval = 1; number = 0 };
+  payload = codes "hi";
+  tag_length = 16;
+  rows = record { tag = first_tag; key = None } ∷ [];
 }
 
 -- a message that somebody without the key made, who put the tag of the first to it
 abbrev pub second : DataFrame
 second = record {
-  version = One; stream = stream; name = record { interval = 1; number = 1 }; payload = codes "no";
-  tag_length = 16; rows = record { tag = first_tag; key = None } ∷ [];
+  version = One;
+  stream = stream;
+  name = record { interval = 1; number = 1 };
+  payload = codes "no";
+  tag_length = 16;
+  rows = record { tag = first_tag; key = None } ∷ [];
 }
 
 -- the sender's message 0 of interval 3, which discloses K 1
 abbrev pub third : DataFrame
 third = record {
-  version = One; stream = stream; name = record { interval = 3; number = 0 }; payload = codes "ok";
-  tag_length = 16; rows = record { tag = third_tag; key = Some key_1 } ∷ [];
+  version = One;
+  stream = stream;
+  name = record { interval = 3; number = 0 };
+  payload = codes "ok";
+  tag_length = 16;
+  rows = record { tag = third_tag; key = Some key_1 } ∷ [];
 }
 
 -- K 1 as the third packet discloses it
