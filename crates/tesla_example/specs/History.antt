@@ -1,5 +1,5 @@
 -- What the receiver of the three packets did, entry by entry.
-use Rattle.std.specs.Prelude.{ℕ, List, [], ◌∷◌, codes}
+use Rattle.std.specs.Prelude.{List, [], ◌∷◌, codes}
 use Rattle.tesla_base.specs.declared.release.Head.{Head}
 use Rattle.tesla_example.specs.Stream.{chain, first, second, spelled, third}
 use Rattle.tesla_fitting.specs.declared.verdict.Verdict.TheVariants.{Kept, Late}

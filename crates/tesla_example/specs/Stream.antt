@@ -5,7 +5,7 @@ use Rattle.tesla_base.specs.declared.names.Key.{Key}
 use Rattle.tesla_base.specs.declared.names.StreamId.{StreamId}
 use Rattle.tesla_base.specs.declared.version.Version.TheVariants.{One}
 use Rattle.tesla_fitting.specs.declared.config.Config.{Config}
-use Rattle.tesla_frame.specs.Frame.{Data, DataFrame, Frame, TagRow, frame_text}
+use Rattle.tesla_frame.specs.Frame.{Data, DataFrame, frame_text}
 use Rattle.tesla_frame.specs.declared.row.KeyRow.{KeyRow}
 
 -- K 1, the key of interval 1, which the sender discloses in interval 3

@@ -1,5 +1,5 @@
 -- What is among lists that are gathered from others.
-use Rattle.std.proofs.Common.{◌≡◌, ◌⊎◌, ℕ, zero, suc, ◌+◌, Bool, true, false, cond, ◌&&◌, List, [], ◌∷◌, ◌++◌, take, Option, Some, None, refl, sym, ap, subst, ⊎_elim, arith, append_assoc}
+use Rattle.std.proofs.Common.{◌≡◌, ℕ, zero, suc, ◌+◌, Bool, true, false, cond, ◌&&◌, List, [], ◌∷◌, ◌++◌, take, Some, refl, sym, subst, ⊎_elim, arith, append_assoc}
 use Rattle.std.specs.Prelude.{find, slice_get, flat_map}
 use Rattle.std.specs.List.{Contains, enumerate_from, list_any}
 use Rattle.std.proofs.lemmas.List.{append-nil}

@@ -1,22 +1,21 @@
 -- What is given is authentic.
 use Rattle.std.proofs.Common.{◌≡◌, ℕ, zero, suc, ◌+◌, ◌<◌, ◌≤◌, Bool, true, false, ◌&&◌, List, [], ◌∷◌, ◌++◌, take, drop, Option, Some, None, refl, sym, ap, subst, ◌∙◌, arith}
-use Rattle.std.specs.Prelude.{find, slice_get, nat_lt, nat_le, bytes_eq, length}
-use Rattle.std.specs.List.{Contains, enumerate_from, list_any, list_all, range_with_len}
-use Rattle.std.proofs.lemmas.Bool.{eqb-true, leb-true, ltb-true}
+use Rattle.std.specs.Prelude.{find, slice_get, nat_lt, nat_le, length}
+use Rattle.std.specs.List.{Contains, list_any, list_all, range_with_len}
+use Rattle.std.proofs.lemmas.Bool.{eqb-true, leb-true}
 use Rattle.std.proofs.lemmas.List.{length-take, take-append-drop}
 use Rattle.std.proofs.lemmas.Option.{same_Some, slice_get_within}
 use Rattle.tesla_base.specs.declared.release.Head.{Head}
 use Rattle.tesla_base.specs.declared.names.Name.{Name}
-use Rattle.tesla_base.proofs.Passing.{Passes, passes_somewhere}
+use Rattle.tesla_base.proofs.Passing.{passes_somewhere}
 use Rattle.tesla_base.proofs.Lists.{taken_at}
 use Rattle.tesla_clock.specs.Safe.{has_chain}
 use Rattle.tesla_fitting.specs.Config.{chains}
 use Rattle.tesla_fitting.specs.Rows.{is_of}
 use Rattle.tesla_fitting.specs.declared.config.Config.{Config}
-use Rattle.tesla_frame.specs.Frame.{Data, DataFrame}
-use Rattle.tesla_frame.specs.Reading.{frame_of}
+use Rattle.tesla_frame.specs.Frame.{DataFrame}
 use Rattle.tesla_frame.specs.declared.row.KeyRow.{KeyRow}
-use Rattle.tesla_receiver.specs.Arrivals.{IsSafeOn, IsTakenKey, KeptAreSafe, NewAreTaken}
+use Rattle.tesla_receiver.specs.Arrivals.{IsSafeOn, KeptAreSafe, NewAreTaken}
 use Rattle.tesla_receiver.specs.Entries.{Arrival, Entry}
 use Rattle.tesla_receiver.specs.History.{IsLegal, Takes, arrivals_in, entry_of, event_of, given_in, has_end, payload_of, payload_in, reply_to, reply_with}
 use Rattle.tesla_receiver.specs.Keys.{new_keys, newest}
@@ -24,11 +23,10 @@ use Rattle.tesla_receiver.specs.Packets.{batch, candidates, is_proof, packet_of,
 use Rattle.tesla_receiver.specs.declared.history.Entry.TheVariants.{Taken}
 use Rattle.tesla_receiver.specs.declared.packet.Packet.{Packet}
 use Rattle.tesla_state.specs.Releases.{head_of}
-use Rattle.tesla_state.specs.declared.replies.Reply.{Reply}
-use Rattle.tesla_state.specs.declared.replies.Reply.TheVariants.{Given, Empty, Over}
+use Rattle.tesla_state.specs.declared.replies.Reply.TheVariants.{Given}
 use Rattle.tesla_walks.specs.declared.release.Release.{Release}
-use Rattle.tesla_theorem.specs.Theorem.{GivenAreAuthentic, IsAuthentic, IsProvedOn}
-use Rattle.tesla_theorem.proofs.Among.{GaveAfter, GaveAt, among_firsts, both, contained, found_passes, gave_after, gave_at}
+use Rattle.tesla_theorem.specs.Theorem.{GivenAreAuthentic, IsAuthentic}
+use Rattle.tesla_theorem.proofs.Among.{among_firsts, both, contained, found_passes, gave_after, gave_at}
 use Rattle.tesla_receiver.proofs.Arrivals.{contained_at}
 use Rattle.tesla_receiver.proofs.NewKeys.{none_contained}
 
