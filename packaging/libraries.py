@@ -30,10 +30,49 @@ def version():
     return ".".join(str(number >> shift & 255) for shift in (16, 8, 0))
 
 
+def uses():
+    """The libraries that each crate of crates.txt names."""
+    rows = [line.partition("#")[0].partition(":") for line in (TOP / "crates.txt").read_text().splitlines()]
+    return {name.split()[0]: named.split() for name, _, named in rows if name.strip()}
+
+
+def below(crates, name):
+    """The crates of the repository that a crate stands on, each once."""
+    return list(dict.fromkeys(it for used in crates[name] if used in crates for it in (*below(crates, used), used)))
+
+
+def built(name):
+    """The library of a crate, where `rt ci` leaves it."""
+    return TOP / f"crates/{name}/out/rlib/{name}.rlib"
+
+
+def is_older(path, crate):
+    """Whether a file of a crate is younger than what was made of it."""
+    files = [it for part in ("src", "specs", "proofs") for it in (TOP / f"crates/{crate}/{part}").rglob("*") if it.is_file()]
+    return max(it.stat().st_mtime for it in files) > path.stat().st_mtime
+
+
+def build_over(crates, archive):
+    """Proves and builds the crate over libraries that are built."""
+    kit, own = toolchain(), below(crates, CRATE.name)
+    words = [f"--extern={it}={kit}/rlibs/{it}.rlib" for it in ("std", *crates[CRATE.name]) if it not in crates]
+    words += [f"--extern={it}={built(it)}" for it in crates[CRATE.name] if it in crates]
+    words += [f"-Ldependency={it}" for it in (kit / "rlibs", *(built(it).parent for it in own))]
+    words += [f"--antt-project={kit}/rattle/logic/antt-project.json", f"--logic-built={kit}/logic_built", f"--toolchain={kit}/toolchain"]
+    words += [f"--links={CRATE.name}=", f"--jobs={os.cpu_count()}", "--crate-type=staticlib", f"-o={archive}"]
+    run(kit / "bin/rattle", "build", f"--crate-name={CRATE.name}", "src/lib.rt", *words, cwd=CRATE)
+
+
 def made_by_crate():
-    """The archive of the crate, which is proved and built where it isn't."""
-    subprocess.run(["rt", "lib"], cwd=CRATE, check=True, stdout=sys.stderr)
-    return CRATE / "out/libtesla_c.a"
+    """The archive of the crate, which is proved and built where it isn't: over the libraries that `rt ci` left, or else by `rt lib`."""
+    crates, archive = uses(), CRATE / "out/libtesla_c.a"
+    libraries = below(crates, CRATE.name)
+    if not all(built(it).is_dir() and not is_older(built(it), it) for it in libraries):
+        subprocess.run(["rt", "lib"], cwd=CRATE, check=True, stdout=sys.stderr)
+    elif not archive.is_file() or is_older(archive, CRATE.name):
+        archive.parent.mkdir(exist_ok=True)
+        build_over(crates, archive)
+    return archive
 
 
 def make(folder, archive=None):
