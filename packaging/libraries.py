@@ -46,10 +46,10 @@ def built(name):
     return TOP / f"crates/{name}/out/rlib/{name}.rlib"
 
 
-def is_older(path, crate):
-    """Whether a file of a crate is younger than what was made of it."""
+def is_made(path, crate, used=()):
+    """Whether what is made of a crate is there, and no file of it nor a library that it uses is younger."""
     files = [it for part in ("src", "specs", "proofs") for it in (TOP / f"crates/{crate}/{part}").rglob("*") if it.is_file()]
-    return max(it.stat().st_mtime for it in files) > path.stat().st_mtime
+    return path.exists() and all(it.stat().st_mtime <= path.stat().st_mtime for it in (*files, *used))
 
 
 def build_over(crates, archive):
@@ -67,9 +67,9 @@ def made_by_crate():
     """The archive of the crate, which is proved and built where it isn't: over the libraries that `rt ci` left, or else by `rt lib`."""
     crates, archive = uses(), CRATE / "out/libtesla_c.a"
     libraries = below(crates, CRATE.name)
-    if not all(built(it).is_dir() and not is_older(built(it), it) for it in libraries):
+    if not all(is_made(built(it), it) for it in libraries):
         subprocess.run(["rt", "lib"], cwd=CRATE, check=True, stdout=sys.stderr)
-    elif not archive.is_file() or is_older(archive, CRATE.name):
+    elif not is_made(archive, CRATE.name, map(built, libraries)):
         archive.parent.mkdir(exist_ok=True)
         build_over(crates, archive)
     return archive
