@@ -1,4 +1,4 @@
--- Whether a number stands in a list, what stands behind it, and lists without repeats.
+-- Whether a number stands in a list, and lists without repeats. Also what stands behind it.
 use Rattle.std.specs.Prelude.{◌≡◌, ℕ, ◌==◌, Bool, false, not, cond, List, [], ◌∷◌, Option, None, slice_get}
 use Rattle.std.specs.List.{filter, list_any}
 

@@ -1,4 +1,4 @@
--- What the bytes of a capture or a script tell that were read so far. Both are files of records.
+-- What bytes of a capture or a script tell that were read so far. Both are files of records.
 use Rattle.std.specs.Prelude.{ℕ, zero, suc, ◌+◌, Bool, List, [], ◌∷◌, length, take, Option, Some, None, nat_lt, ◌==◌, if◌then◌else◌}
 use Rattle.std.specs.Int.{w16, w64}
 use Rattle.tesla_base.specs.Prefix.{parse_number}

@@ -1,4 +1,4 @@
--- The spelling of a release record, and of a message that was accepted on arrival. Such records follow each other without a head.
+-- The spelling of release records, and of messages accepted on arrival. Such records follow each other without a head.
 use Rattle.std.specs.Prelude.{ℕ, List, [], ◌∷◌, ◌++◌, length}
 use Rattle.std.specs.Int.{w16, w32, w64, to_be_bytes}
 use Rattle.tesla_base.specs.declared.names.Name.{Name}

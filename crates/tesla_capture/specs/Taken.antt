@@ -1,4 +1,4 @@
--- Records that were taken from the start of a file, and bytes that hold no refused place.
+-- Records taken from the start of a file, and bytes without a refused place.
 use Rattle.std.specs.Prelude.{◌≡◌, ℕ, List, ◌++◌, Option}
 use Rattle.tesla_records.specs.Taken as files
 use Rattle.tesla_capture.specs.Grammar.{Grammar}

@@ -1,4 +1,4 @@
--- Streams of a list whose senders are brought while it is fed, and when they are needed.
+-- Streams whose senders are brought later, and when they are needed.
 use Rattle.std.specs.Prelude.{◌≡◌, ◌≤◌, ℕ, ◌+◌, ◌-◌, Bool, true, false, not, ◌&&◌, ◌||◌, List, [], ◌∷◌, ◌++◌, drop, length, nat_lt, vec_capacity, Option, Some, None}
 use Rattle.std.specs.List.{list_all}
 use Rattle.tesla_commit.specs.Parts.{Parts}

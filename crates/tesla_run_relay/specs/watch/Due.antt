@@ -1,4 +1,4 @@
--- The same for watch-relay: what a post may send, and when its link may be asked.
+-- The same as Due of relay, for watch-relay.
 use Rattle.std.specs.Prelude.{ℕ, Bool, List, length, Option}
 use Rattle.tesla_relay.specs.Offers.{MayAskNext}
 use Rattle.tesla_run_relay.specs.Due.{IsNextUnder}
