@@ -1,4 +1,4 @@
--- What the inner steps of a feed come to.
+-- What the inner steps of a feed over a list come to.
 use Rattle.std.specs.Prelude.{◌≡◌, ℕ, Bool, true, false, List, [], ◌∷◌, ◌++◌, length, map, take, Option, Some, None, IfSome, Result, Ok, Err}
 use Rattle.std.specs.List.{Contains}
 use Rattle.tesla_relay.specs.Opened.{post_name}
