@@ -1,4 +1,4 @@
--- What an answer is called: its name, and then what it tells beside that, one blank before each number.
+-- What an answer is called: its name, then its numbers. One blank stands before each number.
 use Rattle.std.specs.Prelude.{ℕ, List, [], ◌++◌, Some, None, codes, decimal}
 use Rattle.tesla_base.specs.declared.release.Head.{Head}
 use Rattle.tesla_fitting.specs.declared.verdict.Verdict.{Verdict}

@@ -1,4 +1,4 @@
--- What the bytes of a trace come to.
+-- What a trace's bytes come to: whole entries, and the first refused place.
 use Rattle.std.specs.Prelude.{ℕ, List, Option, Some, None}
 use Rattle.tesla_receiver.specs.Entries.{Entry}
 use Rattle.tesla_records.specs.Records.{Outline, outline_of}

@@ -1,4 +1,4 @@
--- What a step through a trace or a tail says, as a step through a file of entries.
+-- What a step through a trace or a tail says, and kinds of refused places.
 use Rattle.std.specs.Prelude.{◌≡◌, false}
 use Rattle.tesla_records.specs.declared.refusal.Refusal.{Refusal}
 use Rattle.tesla_records.specs.declared.refusal.Refusal.TheVariants as refusals

@@ -1,4 +1,4 @@
--- Numbers of a list: whether one stands there, what stands behind it, and lists in which none stands twice.
+-- Whether a number stands in a list, and lists without repeats. Also what stands behind it.
 use Rattle.std.specs.Prelude.{◌≡◌, ℕ, ◌==◌, Bool, false, not, cond, List, [], ◌∷◌, Option, None, slice_get}
 use Rattle.std.specs.List.{filter, list_any}
 

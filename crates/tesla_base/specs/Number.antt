@@ -1,4 +1,4 @@
--- Whole numbers as decimal texts, one spelling for each number.
+-- Decimals, one spelling for each number, and the first fault of any other text.
 use Rattle.std.specs.Prelude.{ℕ, zero, suc, ◌+◌, ◌-◌, ◌^◌, not, ◌&&◌, List, length, drop, ℤ, pos, negsuc, Option, Some, None, Result, Ok, Err, nat_lt, nat_le, ◌==◌, slice_index, position, if◌then◌else◌}
 use Rattle.std.specs.Char.{is_ascii_digit}
 use Rattle.std.specs.Str.Parse.{digits_value, starts_with_minus}

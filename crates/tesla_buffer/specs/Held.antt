@@ -1,4 +1,4 @@
--- What a contract sees of a buffer: the packets that are held, in the order in which they came.
+-- The packets that a buffer holds, in order of arrival, as contracts see them.
 use Rattle.std.specs.Prelude.{◌≡◌, ℕ, ◌==◌, Bool, true, false, not, ◌&&◌, ◌||◌, cond, List, [], ◌∷◌, length, map, take, Option, None, Some}
 use Rattle.std.specs.List.{filter, list_any}
 use Rattle.tesla_base.specs.declared.names.Name.{Name}

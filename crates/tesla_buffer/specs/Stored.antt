@@ -1,5 +1,4 @@
--- How packets are stored: each at its place in a table of slots, an index of the places by interval, and a table of
--- the names of those that were released.
+-- How packets are stored. Each is at its place in a table of slots; an index has the places by interval, and a table the names of those that were released.
 use Rattle.std.specs.Prelude.{◌≡◌, ℕ, ◌+◌, ◌*◌, ◌^◌, ◌<◌, ◌≤◌, Bool, true, false, ◌&&◌, cond, List, [], ◌∷◌, length, map, get_or, Option, None, Some}
 use Rattle.tesla_base.specs.declared.names.Name.{Name}
 use Rattle.tesla_buffer.specs.Held.{Held, is_resting}

@@ -1,4 +1,5 @@
--- Captures: what came to a receiver and when it was asked for packets, as a file. The format is the project's own.
+-- The records of a capture, and their spelling. A capture is a file of what came to a receiver, and of when it was
+-- asked for packets. The format is the project's own.
 use Rattle.std.specs.Prelude.{ℕ, ◌<◌, ◌≤◌, ◌^◌, false, List, [], ◌∷◌, ◌++◌, length, codes}
 use Rattle.std.specs.Int.{w16, w64, to_be_bytes}
 use Rattle.tesla_capture.specs.Grammar.{Grammar, file_text, IsFile}

@@ -1,4 +1,5 @@
--- Captures and scripts are files of records: what is read of their heads and records is the one spelling of each, and what was told of some bytes stays so, whatever follows them.
+-- Captures and scripts as files of records. What is read of their heads and records is the one spelling of each, and
+-- what was told of some bytes stays so, whatever follows them.
 use Rattle.std.proofs.Common.{◌≡◌, ℕ, zero, suc, ◌+◌, ◌<◌, ◌≤◌, ◌^◌, List, [], ◌∷◌, ◌++◌, length, take, drop, Option, Some, None, refl, sym, ap, subst, ◌∙◌, arith, append_assoc, inl, inr}
 use Rattle.std.specs.Int.{w16, w64, to_be_bytes}
 use Rattle.std.proofs.lemmas.List.{length-append, length-drop, length-take-le, take_at, take-append-drop, take-append-le}

@@ -1,4 +1,4 @@
--- What is proved of the formats of captures and of scripts: their records are those of the two kinds, as a reader takes them.
+-- What is proved of the formats of captures and of scripts. Their records are those of the two kinds, as a reader takes them.
 use Rattle.std.proofs.Common.{◌≡◌, ◌⊎◌, ℕ, ◌<◌, ◌≤◌, ◌^◌, Bool, List, [], ◌∷◌, ◌++◌, length, refl, lit<, lit≤, inl, inr}
 use Rattle.std.specs.Prelude.{if◌then◌else◌}
 use Rattle.std.specs.Int.{w16, w64, to_be_bytes}

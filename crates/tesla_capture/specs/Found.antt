@@ -1,4 +1,4 @@
--- What is known of a place of a file from the bytes that are pending there.
+-- What pending bytes tell of a place of a capture or a script.
 use Rattle.std.specs.Prelude.{ℕ, List}
 use Rattle.tesla_records.specs.Found as files
 use Rattle.tesla_capture.specs.Grammar.{Grammar}

@@ -1,4 +1,5 @@
--- Grammars of captures and scripts: a head of five bytes, and then records to the end of the file. A record begins with a byte of its kind, 1 or 2.
+-- What a capture or a script is as a file of records. A head of five bytes comes first, and then records to the end of
+-- the file. A record begins with a byte of its kind, 1 or 2.
 use Rattle.std.specs.Prelude.{◌≡◌, ℕ, ◌≤◌, Bool, List, ◌++◌, length}
 use Rattle.std.specs.List.{flat_map, AllByRecursion}
 pub use Rattle.tesla_base.specs.Prefix.{AreBytes}

@@ -1,4 +1,4 @@
--- The names of the kinds, as they are printed.
+-- The names of the kinds of refused records, as they are printed.
 use Rattle.std.specs.Prelude.{ℕ, List, codes}
 use Rattle.tesla_capture.specs.declared.record.RecordKind.{RecordKind}
 use Rattle.tesla_capture.specs.declared.record.RecordKind.TheVariants.{BadHead, BadKind, Truncated, TooLong, TooLarge}

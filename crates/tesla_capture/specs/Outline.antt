@@ -1,4 +1,4 @@
--- Captures read from left to right, record after record.
+-- The records of a capture before its first refused place, and that place.
 use Rattle.std.specs.Prelude.{ℕ, List}
 use Rattle.tesla_capture.specs.Capture.{Record, capture}
 use Rattle.tesla_capture.specs.Records as records

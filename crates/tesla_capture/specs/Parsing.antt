@@ -1,4 +1,4 @@
--- Heads and records of captures and scripts read from left to right, as far as the bytes tell, and the files as files of records.
+-- What bytes of a capture or a script tell that were read so far. Both are files of records.
 use Rattle.std.specs.Prelude.{ℕ, zero, suc, ◌+◌, Bool, List, [], ◌∷◌, length, take, Option, Some, None, nat_lt, ◌==◌, if◌then◌else◌}
 use Rattle.std.specs.Int.{w16, w64}
 use Rattle.tesla_base.specs.Prefix.{parse_number}

@@ -1,4 +1,4 @@
--- The steps of the readers of captures and of scripts, as steps of a reader of records.
+-- The readers' steps, as steps of a reader of records.
 use Rattle.std.specs.Prelude.{ℕ, List, Option}
 use Rattle.tesla_capture.specs.Capture.{Record, capture}
 use Rattle.tesla_capture.specs.Steps as steps

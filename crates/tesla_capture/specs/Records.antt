@@ -1,4 +1,4 @@
--- Captures and scripts read from left to right, record after record.
+-- The records of a capture or a script before its first refused place. Also that place.
 use Rattle.std.specs.Prelude.{ℕ, zero, suc, List, [], ◌∷◌, ◌++◌, Option, Some, None}
 use Rattle.tesla_records.specs.Records as files
 pub use Rattle.tesla_records.specs.Records.{AtEnd, Recorded, Refuses}

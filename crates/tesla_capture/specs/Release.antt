@@ -1,4 +1,4 @@
--- The records of released packets, and of messages that were accepted on arrival. They follow each other without a head.
+-- The spelling of release records, and of messages accepted on arrival. Such records follow each other without a head.
 use Rattle.std.specs.Prelude.{ℕ, List, [], ◌∷◌, ◌++◌, length}
 use Rattle.std.specs.Int.{w16, w32, w64, to_be_bytes}
 use Rattle.tesla_base.specs.declared.names.Name.{Name}

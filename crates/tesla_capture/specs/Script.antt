@@ -1,4 +1,4 @@
--- Scripts: what a sender is to send and when, as a file. The format is the project's own.
+-- The records of a script, and their spelling. A script is a file of what a sender is to send, and of when. The format is the project's own.
 use Rattle.std.specs.Prelude.{ℕ, ◌<◌, ◌≤◌, ◌^◌, true, List, [], ◌∷◌, ◌++◌, length, codes}
 use Rattle.std.specs.Int.{w16, w64, to_be_bytes}
 use Rattle.tesla_capture.specs.Grammar.{AreBytes, Grammar, file_text, IsFile}

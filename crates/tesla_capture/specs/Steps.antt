@@ -1,4 +1,4 @@
--- What a reader has ahead, and what one step says of the file that it reads.
+-- What a reader of captures or scripts has ahead, and what one step says.
 use Rattle.std.specs.Prelude.{◌≡◌, ◌⊎◌, ℕ, ◌+◌, ◌≤◌, Bool, true, false, List, [], length, take, drop, Option, Some}
 use Rattle.tesla_records.specs.Steps as files
 pub use Rattle.tesla_records.specs.Steps.{pending, ahead}

@@ -1,4 +1,4 @@
--- The records that were taken from the start of a file, and what of a file holds no refused place.
+-- Records taken from a capture or a script, and bytes without a refused place.
 use Rattle.std.specs.Prelude.{◌≡◌, ℕ, List, ◌++◌, Option}
 use Rattle.tesla_records.specs.Taken as files
 use Rattle.tesla_capture.specs.Grammar.{Grammar}

@@ -1,4 +1,4 @@
--- What it costs at most to give the keys of a chain in order, in evaluations of HMAC.
+-- What the keys of a chain cost at most, in evaluations of HMAC.
 use Rattle.std.specs.Prelude.{ℕ, zero, suc, ◌+◌, ◌*◌, ◌/◌}
 
 -- how often n can be halved, rounded down, until it is 0, and `most` times at most

@@ -1,5 +1,5 @@
--- The keys that a traversal keeps between the seed and those that it has given. Places along the chain are counted
--- from the seed: the key at the distance d is F of the seed, d times.
+-- The keys that a traversal keeps. They stand between the seed and those that it has given. Places along the chain are
+-- counted from the seed: the key at the distance d is F of the seed, d times.
 use Rattle.std.specs.Prelude.{◌≡◌, ℕ, ◌+◌, ◌-◌, ◌^◌, ◌<◌, ◌≤◌, List, [], ◌∷◌, length}
 use Rattle.tesla_base.specs.declared.names.Key.{Key}
 use Rattle.tesla_prf.specs.Keys.{walk}

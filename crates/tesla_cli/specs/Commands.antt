@@ -1,4 +1,4 @@
--- The commands over files, and the tools beside them: the word that names each, how they are told, and one run of a tool.
+-- Which word names which command, and one run of a tool. Also how commands are told.
 use Rattle.std.specs.Prelude.{◌≡◌, ℕ, Bool, true, false, List, [], ◌∷◌, ◌++◌, codes, flat_map}
 use Rattle.std.specs.Str.{bytes_eq}
 use Rattle.tesla_desk.specs.Live.{Live}

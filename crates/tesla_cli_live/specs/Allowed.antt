@@ -1,4 +1,4 @@
--- What live commands may ask, write and send while they run, whether or not they end, told their words and what their environment tells.
+-- What live commands may ask, write and send while they run. It holds whether or not they end, and is told their words and what their environment tells.
 use Rattle.std.specs.Prelude.{◌≡◌, ◌⊎◌, ℕ, Bool, true, List, Option, codes}
 use Rattle.tesla_desk.specs.Outside.{Told}
 use Rattle.tesla_front.specs.Table.{IsFirst}

@@ -1,4 +1,4 @@
--- The live commands, in three tables: the word that names each, how they are told, and one run of them.
+-- Which word names which live command, and one run of each table. Also how commands are told.
 use Rattle.std.specs.Prelude.{◌≡◌, ◌⊎◌, ◌++◌, ℕ, Bool, true, List, [], ◌∷◌, Option, Some, None, codes, flat_map}
 use Rattle.std.specs.Str.{bytes_eq}
 use Rattle.tesla_desk.specs.Live.{Live}

@@ -1,4 +1,4 @@
--- Which chains of a packet are safe on arrival (RFC 4082, section 3.5), as a set of bits.
+-- The security condition: which chains of a packet are safe on arrival (RFC 4082, section 3.5). They are a set of bits.
 use Rattle.std.specs.Prelude.{ℕ, zero, suc, ◌+◌, ◌^◌, ◌/◌, ◌%◌, Bool, ◌&&◌, List, length, slice_index, nat_lt, ◌==◌, if◌then◌else◌}
 
 -- bit c of the set is set

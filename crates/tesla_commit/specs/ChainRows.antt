@@ -1,4 +1,4 @@
--- Which setup a length of tags and the rows of chains make, or the first line that is refused with its kind.
+-- Which setup rows of chains make, or the first refused line. A length of tags and the rows are judged, and a refused line has its kind.
 use Rattle.std.specs.Prelude.{ℕ, ◌+◌, List, [], ◌∷◌, Result, Ok, Err, nat_lt, nat_le, ◌==◌, ◌||◌, if◌then◌else◌}
 use Rattle.tesla_base.specs.Version.{most_chains, shortest_tag, longest_tag}
 use Rattle.tesla_base.specs.declared.names.StreamId.{StreamId}

@@ -1,4 +1,4 @@
--- The names of the kinds, as they are printed.
+-- The names of the kinds of refused lines, as they are printed.
 use Rattle.std.specs.Prelude.{ℕ, List, codes}
 use Rattle.tesla_commit.specs.declared.refusal.SetupKind.{SetupKind}
 use Rattle.tesla_commit.specs.declared.refusal.SetupKind.TheVariants.{BadLine, BadNumber, BadHex, NoChain, TooManyChains, DelaysNotRising, IndexPastLast, LimitPassed, TooLong}

@@ -1,6 +1,5 @@
--- Which setup a text spells, or the first line that is refused with its kind. A line is whatever an LF
--- ends, so bytes that no LF follows are none. Each space ends one word and begins the next, so a word can be
--- empty.
+-- Which setup a text spells, or its first refused line with its kind. A line is whatever an LF ends, so bytes that no
+-- LF follows are none. Each space ends one word and begins the next, so a word can be empty.
 use Rattle.std.specs.Prelude.{ℕ, ◌+◌, Bool, List, [], ◌∷◌, length, Result, Ok, Err, codes, nat_lt, nat_le, ◌==◌, ◌&&◌, ◌||◌, if◌then◌else◌}
 use Rattle.std.specs.Int.{w64, from_be_bytes}
 use Rattle.std.specs.List.{slice_split, list_all}

@@ -1,4 +1,4 @@
--- What a setup says: the commitment that receivers trust beforehand (RFC 4082, section 3.3).
+-- What a setup says, and its limits (RFC 4082, section 3.3). It has the commitment that receivers trust beforehand.
 use Rattle.std.specs.Prelude.{ℕ, ◌<◌, ◌≤◌, ◌^◌, List, [], ◌∷◌, length}
 use Rattle.std.specs.List.{AllByRecursion}
 use Rattle.tesla_base.specs.Version.{most_chains, IsTagLength}

@@ -1,4 +1,4 @@
--- The input and the output of a command, opened one after the other, and closed.
+-- The input and the output of a command, opened and closed.
 use Rattle.std.specs.Prelude.{◌≡◌, ◌≢◌, ◌⊎◌, ℕ, Option, IfSome, List, [], ◌∷◌}
 use Rattle.tesla_desk.specs.Faults.{HasCauses, HasCausesBeside, after_source, after_sink}
 use Rattle.tesla_desk.specs.Outside.{Told, Opened, OfSource, OfSink, page_of, with_openings}

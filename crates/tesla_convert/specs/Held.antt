@@ -1,4 +1,4 @@
--- What was written of a text, and what is held of it and not written yet.
+-- What was written of a text, and what is held and not written.
 use Rattle.std.specs.Prelude.{◌≡◌, ℕ, Option, Some, List, ◌++◌}
 use Rattle.tesla_front.specs.Files.{IsPrefix}
 

@@ -1,4 +1,4 @@
--- What a command that makes one file of another comes to, and what it writes, told as functions of the input's bytes.
+-- What a command that makes one file of another comes to and writes. Both are told as functions of the input's bytes.
 use Rattle.std.specs.Prelude.{◌≡◌, ◌≢◌, ◌⊎◌, ℕ, ◌<◌, ◌≤◌, false, Option, Some, IfSome, List, [], ◌++◌}
 use Rattle.tesla_desk.specs.Outside.{Page, Absent, Holds}
 use Rattle.tesla_front.specs.OutcomeView.{OutcomeView, Done, Refused, Failed}

@@ -1,4 +1,4 @@
--- The rule of the table, what each step on it tells, and what holds of each seat between two calls.
+-- The rule of the table, and what each step on it tells. Also what holds of each seat between two calls.
 use Rattle.std.specs.Prelude.{◌≡◌, ℕ, ◌≤◌, List, [], slice_index_or, slice_set}
 use mathlib.Core.Option.{some}
 use lib.ListN.{get_elem?}

@@ -1,4 +1,4 @@
--- Counts of faults: they never fall, they stand still at the end of their type, and a failure is answered exactly where one rose.
+-- Counts of faults, and causes. Counts never fall, they stand still at the end of their type, and a failure is answered exactly where one rose.
 use Rattle.std.specs.Prelude.{◌≡◌, ◌⊎◌, ℕ, ◌+◌, ◌-◌, ◌^◌, ◌<◌, ◌≤◌, if◌then◌else◌, nat_lt}
 
 -- a count after one fault more: it stands still at the end of its type

@@ -1,4 +1,4 @@
--- What a desk tells of links, posts and clocks, which are what happens while it is running.
+-- What a desk tells of links, posts and clocks.
 use Rattle.std.specs.Prelude.{◌≡◌, ℕ, Bool, false, nat_lt, List, [], Option, Some, None}
 use Rattle.tesla_desk.specs.Clocks.{Ticking}
 use Rattle.tesla_desk.specs.declared.link.Letter.{Letter}

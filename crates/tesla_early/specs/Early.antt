@@ -1,4 +1,4 @@
--- Which arrivals are early: a promise that was learnt before is that of their message. After the immediate authentication of Perrig, Canetti, Tygar and Song (IEEE S&P 2000).
+-- Which arrivals are early: a learnt promise is that of their message. After the immediate authentication of Perrig, Canetti, Tygar and Song (IEEE S&P 2000).
 use Rattle.std.specs.Prelude.{ℕ, Bool, true, false, List, [], ◌++◌, Option, Some, None, cond, if◌then◌else◌}
 use Rattle.std.specs.List.{enumerate_from, fold}
 use Rattle.sha2.specs.Sha256.{sha256}

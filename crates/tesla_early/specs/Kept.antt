@@ -1,4 +1,4 @@
--- The promises that are kept: which of them is used by a message, and what is kept after an arrival or a take.
+-- Which kept promise a message uses, and what an arrival or a take leaves.
 use Rattle.std.specs.Prelude.{ℕ, ◌==◌, ◌&&◌, not, Bool, true, false, List, [], ◌∷◌, ◌++◌, Option, Some, None, bytes_eq, cond, if◌then◌else◌}
 use Rattle.std.specs.List.{list_any}
 use Rattle.sha2.specs.Sha256.{sha256}

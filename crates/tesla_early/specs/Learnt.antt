@@ -1,4 +1,4 @@
--- The promises that a receiver learnt, and which of them is used by a message.
+-- Which promises a receiver learnt, and which one a message uses.
 use Rattle.std.specs.Prelude.{ℕ, ◌-◌, ◌==◌, ◌&&◌, not, Bool, true, false, List, [], ◌∷◌, ◌++◌, length, take, drop, Option, Some, None, bytes_eq, if◌then◌else◌}
 use Rattle.std.specs.List.{list_any}
 use Rattle.tesla_base.specs.declared.names.Name.{Name}

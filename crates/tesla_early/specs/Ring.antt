@@ -1,4 +1,4 @@
--- How promises are kept: each at its place in a table, and the places of each bucket in a list. The places are used in turn, round a ring.
+-- How promises are kept. Each is at its place in a table, and the places of each bucket are in a list. The places are used in turn, round a ring.
 use Rattle.std.specs.Prelude.{◌≡◌, ℕ, zero, suc, ◌+◌, ◌-◌, ◌*◌, ◌%◌, ◌==◌, ◌<◌, ◌≤◌, ◌⊎◌, Bool, false, List, [], ◌++◌, Option, Some, None, length, map, get_or, if◌then◌else◌}
 use Rattle.std.specs.List.{filter, range_with_len}
 use Rattle.sha2.specs.Sha256.{sha256}

@@ -1,4 +1,4 @@
--- The payloads of a stream in which each message promises one that comes later.
+-- Payloads that each promise a later message.
 use Rattle.std.specs.Prelude.{◌≡◌, ℕ, ◌+◌, ◌-◌, List, [], ◌∷◌, Option, Some, None, slice_get}
 use Rattle.tesla_base.specs.declared.names.Name.{Name}
 use Rattle.tesla_early.specs.Payloads.{plain_text, promise_for, promising_text}

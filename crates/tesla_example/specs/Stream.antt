@@ -1,4 +1,4 @@
--- A stream of one key chain, what its receiver is set up with, and three packets: one that is released, one that is forged and one that is late.
+-- A stream of one key chain, its receiver's setup, and three packets. One is released, one is forged and one is late.
 use Rattle.std.specs.Prelude.{ℕ, pos, List, [], ◌∷◌, Some, None, codes}
 use Rattle.tesla_base.specs.declared.names.ChainNo.{ChainNo}
 use Rattle.tesla_base.specs.declared.names.Key.{Key}

@@ -1,4 +1,4 @@
--- Where what a feed sends and tells begins: events at readings that the clock gave, and posts that sent nothing.
+-- At which readings events of a feed are given, and posts that sent nothing.
 use Rattle.std.specs.Prelude.{◌≡◌, ℕ, suc, Bool, true, List, [], ◌∷◌, IfSome}
 use Rattle.std.specs.List.{AllByRecursion}
 use Rattle.tesla_desk.specs.declared.link.Letter.TheVariants as letters

@@ -1,4 +1,4 @@
--- What a feed makes of what happens: the log of the calls that it makes of a sender, and why it refuses messages.
+-- What a feed makes of what comes: calls, refusals, and disclosures that are due.
 use Rattle.std.specs.Prelude.{ℕ, ◌+◌, ◌-◌, ◌*◌, ◌^◌, Bool, true, false, not, ◌&&◌, ◌==◌, List, [], ◌∷◌, ◌++◌, length, map, max, nat_lt, nat_le, Result, Ok, Err, if◌then◌else◌, option_to_list}
 use Rattle.std.specs.List.{count_by, fold, list_all, list_any}
 use Rattle.tesla_clock.specs.Schedule.{Times}

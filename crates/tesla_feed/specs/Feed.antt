@@ -1,4 +1,4 @@
--- What a feed takes of its link, its gate and its clock, and what each post sends.
+-- What a feed takes of link, gate and clock, and what each post sends.
 use Rattle.std.specs.Prelude.{◌≡◌, ℕ, Bool, true, false, List, [], ◌∷◌, ◌++◌, map, take, Option}
 use Rattle.std.specs.List.{AllByRecursion}
 use Rattle.tesla_desk.specs.Clocks.{Gives, Ticking}

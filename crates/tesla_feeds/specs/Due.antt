@@ -1,4 +1,4 @@
--- What a feed over a list may send and tell while it runs: the next frame of one feed, and the counts of all until then, at readings that the clock gave.
+-- What a feed over a list may send and tell while it runs. That is the next frame of one feed, and the counts of all until then, at readings that the clock gave.
 use Rattle.std.specs.Prelude.{◌≡◌, ℕ, Bool, true, List, [], ◌∷◌, ◌++◌, Option, IfSome}
 use Rattle.std.specs.List.{Contains}
 use Rattle.tesla_relay.specs.Posts.{PostSeen}

@@ -1,4 +1,4 @@
--- What one event of a feed over a list comes to.
+-- What one event of a feed comes to.
 use Rattle.std.specs.Prelude.{◌≡◌, ℕ, Bool, true, false, List, [], ◌++◌, Option, Some, None, Result, Ok, Err, if◌then◌else◌}
 use Rattle.tesla_relay.specs.Counts.{counted}
 use Rattle.tesla_relay.specs.Posts.{PostSeen}

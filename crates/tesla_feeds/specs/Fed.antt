@@ -1,4 +1,4 @@
--- What a feed over a list of streams makes of what happens: the calls of each stream, the frames of all, and why messages are refused.
+-- What a feed over a list of streams makes of what comes. These are the calls of each stream, the frames of all, and why messages are refused.
 use Rattle.std.specs.Prelude.{ℕ, ◌+◌, Bool, true, not, ◌&&◌, List, [], ◌∷◌, ◌++◌, length, nat_lt, Option, Some, None, Result, Ok, Err, if◌then◌else◌}
 use Rattle.std.specs.List.{fold}
 use Rattle.tesla_base.specs.declared.names.Name.{Name}

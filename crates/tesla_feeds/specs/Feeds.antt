@@ -1,4 +1,4 @@
--- What a run of a feed over a list comes to: which readings of the clock and which items of the link it took, and what each post sent.
+-- What a feed over a list takes of link and clock, and what each post sends.
 use Rattle.std.specs.Prelude.{◌≡◌, ◌⊎◌, ℕ, Bool, true, false, List, [], ◌∷◌, ◌++◌, map, Option, IfSome}
 use Rattle.std.specs.List.{AllByRecursion, list_all, list_any}
 use Rattle.tesla_desk.specs.Clocks.{Gives, Ticking}

@@ -1,4 +1,4 @@
--- What the inner steps of a run of a feed over a list come to.
+-- What the inner steps of a run come to.
 use Rattle.std.specs.Prelude.{◌≡◌, ℕ, Bool, true, false, not, List, [], ◌∷◌, ◌++◌, map, Option}
 use Rattle.std.specs.List.{AllByRecursion, fold, list_all}
 use Rattle.tesla_desk.specs.Clocks.{Gives, Ticking}

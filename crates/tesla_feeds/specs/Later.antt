@@ -1,4 +1,4 @@
--- The streams of a list whose senders are brought while it is fed.
+-- Streams whose senders are brought later, and when they are needed.
 use Rattle.std.specs.Prelude.{◌≡◌, ◌≤◌, ℕ, ◌+◌, ◌-◌, Bool, true, false, not, ◌&&◌, ◌||◌, List, [], ◌∷◌, ◌++◌, drop, length, nat_lt, vec_capacity, Option, Some, None}
 use Rattle.std.specs.List.{list_all}
 use Rattle.tesla_commit.specs.Parts.{Parts}

@@ -1,4 +1,4 @@
--- What is told of the counts of a feed over a list while it runs.
+-- What is told of a feed's counts while it runs.
 use Rattle.std.specs.Prelude.{ℕ, List, [], ◌∷◌}
 use Rattle.tesla_relay.specs.Counts.{counted}
 use Rattle.tesla_sender.specs.Made.{Stream}

@@ -1,4 +1,4 @@
--- The order of the streams of a list, and when a stream hands over to the next one.
+-- The order of streams in a list, and when one hands over to the next.
 use Rattle.std.specs.Prelude.{◌≡◌, ℕ, ◌+◌, ◌*◌, Bool, true, false, not, ◌&&◌, ◌==◌, List, [], ◌∷◌, ◌++◌, max, nat_le, nat_lt, Option, Some, None, if◌then◌else◌}
 use Rattle.std.specs.List.{AllByRecursion, fold}
 use Rattle.tesla_clock.specs.Schedule.{Times}

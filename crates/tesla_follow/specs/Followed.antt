@@ -1,4 +1,5 @@
--- What a follower is told and answers, from its events: the epochs of a feed, of which the newest three are open, the promises of each, and the messages that were accepted on arrival and wait.
+-- What a follower is told and answers, from its events. Of the epochs of a feed the newest three are open; each has its
+-- promises, and messages that were accepted on arrival wait.
 use Rattle.std.specs.Prelude.{ℕ, suc, ◌+◌, ◌-◌, ◌^◌, Bool, true, false, not, List, [], ◌∷◌, ◌++◌, length, map, filter, drop, take, Option, Some, None, Result, Ok, Err, nat_lt, ◌==◌, if◌then◌else◌}
 use Rattle.std.specs.List.{list_all, list_any, range_with_len}
 use Rattle.tesla_base.specs.declared.release.Head.{Head}

@@ -1,4 +1,4 @@
--- What the inner calls see of the epochs that are open, of the messages that wait, and what comes of them.
+-- What the inner calls see of open epochs and of messages that wait. Also what comes of them.
 use Rattle.std.specs.Prelude.{◌≡◌, ◌≤◌, ◌<◌, ◌^◌, ℕ, ◌+◌, ◌*◌, ◌==◌, Bool, true, false, List, [], ◌∷◌, ◌++◌, length, map, filter, take, drop, get_or, Option, Some, None, count_by, sum_by}
 use Rattle.std.specs.List.{AllByRecursion, fold, range_with_len}
 use Rattle.tesla_base.specs.declared.names.StreamId.{StreamId}

@@ -1,4 +1,4 @@
--- What is so of the epochs of every followed history: where a setup came from, and where an accepted message did.
+-- What is so of every followed history: where setups and accepted messages came from.
 use Rattle.std.specs.Prelude.{◌≡◌, ◌<◌, ℕ, suc, true, List, [], ◌∷◌, Some, slice_get, get_or, take, ◌==◌, if◌then◌else◌}
 use Rattle.tesla_base.specs.declared.release.Head.{Head}
 use Rattle.tesla_early.specs.Early.{Message, candidate, is_early, message_of}

@@ -1,4 +1,4 @@
--- What a take answers, with the bytes that it fills in.
+-- What a take of a follower answers, with the bytes that it fills in.
 use Rattle.std.specs.Prelude.{◌≡◌, ◌≤◌, ℕ, List, take, drop}
 use Rattle.tesla_follow.specs.declared.answers.FollowReply.{FollowReply}
 use Rattle.tesla_follow.specs.declared.answers.FollowReply.TheVariants as replies

@@ -1,4 +1,4 @@
--- What the views of a frame show: rows that stand in the bytes of the datagram.
+-- What views of a frame show: rows in the datagram's bytes.
 use Rattle.std.specs.Prelude.{◌≡◌, ℕ, zero, suc, ◌+◌, ◌<◌, ◌≤◌, List, [], ◌∷◌, length, take, drop, slice_index, Option, Some, None}
 use Rattle.std.specs.Int.{w32, from_be_bytes}
 use Rattle.tesla_base.specs.declared.names.Key.{Key}

@@ -1,4 +1,4 @@
--- What stands in the room for a datagram once a text was written at its start, and the frames of the values that are written.
+-- What stands in the room for a datagram once a text was written. The text stands at its start. Also the frames of the values that are written.
 use Rattle.std.specs.Prelude.{◌≡◌, List, ℕ, [], ◌∷◌, ◌++◌, length, drop, Option}
 use Rattle.tesla_base.specs.Tag.{tag_bytes}
 use Rattle.tesla_base.specs.declared.names.Key.{Key}

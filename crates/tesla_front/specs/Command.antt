@@ -1,4 +1,4 @@
--- What a command is, and one run of it.
+-- What a command is, and what performing it comes to.
 use Rattle.std.specs.Prelude.{◌≡◌, ℕ, List}
 use Rattle.tesla_desk.specs.Faults.{HasCausesBeside}
 use Rattle.tesla_desk.specs.Outside.{Opening, Told}

@@ -1,4 +1,4 @@
--- The console, on which it is told what was come to.
+-- What the console shows, on which a command tells what it came to.
 use Rattle.std.specs.Prelude.{◌≡◌, ◌⊎◌, ℕ, ◌<◌, ◌++◌, true, false, Option, List, take}
 use Rattle.tesla_desk.specs.Outside.{Page, Untold, Absent, Holds, AppendsPrefix, with_bytes}
 use Rattle.tesla_front.specs.OutcomeView.{OutcomeView, Failed, IsDone, text_of}

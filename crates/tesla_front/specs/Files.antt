@@ -1,4 +1,4 @@
--- Files that are opened and read.
+-- Files that are opened and read, and facts of their bytes.
 use Rattle.std.specs.Prelude.{◌≡◌, ◌≢◌, ℕ, ◌+◌, ◌≤◌, true, false, Option, IfSome, Result, Ok, Err, List, [], ◌++◌, length, take}
 use Rattle.tesla_desk.specs.Live.{Mail, UntoldMail, AbsentMail, HoldsMail}
 use Rattle.tesla_desk.specs.Outside.{Page, Untold, Absent, Holds, after_bytes}

@@ -1,4 +1,4 @@
--- The lines of the console.
+-- The lines of the console: that of a count.
 use Rattle.std.specs.Prelude.{ℕ, List, ◌++◌, codes, decimal}
 
 -- a name, a space, a number and an LF

@@ -1,4 +1,4 @@
--- The files of a command: which were asked to be opened, and what is told of them.
+-- Which files of a command were asked for, and what is told of them.
 use Rattle.std.specs.Prelude.{◌≡◌, ◌≢◌, ◌⊎◌, ℕ, ◌≤◌, Option, List, [], ◌∷◌, length, map, take, codes}
 use Rattle.tesla_desk.specs.Outside.{Page, Opening, OfSource, OfSink, OfLink, OfPost, Told, with_openings}
 use Rattle.tesla_front.specs.Files.{HasFailed, HasFailedMail}

@@ -1,4 +1,4 @@
--- What a command comes to: its status, and the lines that tell it on the console.
+-- What a command comes to: its status and its lines on the console.
 use Rattle.std.specs.Prelude.{◌≡◌, ℕ, true, Result, Ok, Err, List}
 use Rattle.arrayvec.specs.ArrayString.{ArrayString}
 use Rattle.tesla_front.specs.Fault.{fault_status, fault_line, is_own_status}

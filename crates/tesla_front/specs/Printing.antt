@@ -1,4 +1,4 @@
--- What a command is that prints lines on the console while it goes, and one run of it.
+-- What a command that prints lines meanwhile is, and one run of it.
 use Rattle.std.specs.Prelude.{◌≡◌, ◌≢◌, ◌⊎◌, ℕ, ◌<◌, true, false, Option, List, [], ◌∷◌, ◌++◌, take, codes}
 use Rattle.tesla_desk.specs.Faults.{Faults, HasCausesBeside, after_sink}
 use Rattle.tesla_desk.specs.Outside.{Opening, OfSource, OfSink, Page, Untold, Absent, Holds, Told, AppendsPrefix, with_bytes, with_openings}

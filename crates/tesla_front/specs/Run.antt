@@ -1,4 +1,5 @@
--- What a run of words is, for all words and desks, told the command that the first word names and the usage lines of all.
+-- What a run is: what was opened, what changed, what is told, and which count rose. It is that of any words over any
+-- desk, told the command that the first word names and the usage lines of all.
 use Rattle.std.specs.Prelude.{◌≡◌, ◌≢◌, ◌⊎◌, ℕ, ◌-◌, ◌^◌, ◌<◌, List, [], ◌∷◌, take, codes}
 use Rattle.tesla_desk.specs.Faults.{Faults, CountsOpening, HasCausesBeside, Rose, after_sink}
 use Rattle.tesla_desk.specs.Outside.{Opening, OfSource, OfSink, Told, with_openings, AsksPrefix}

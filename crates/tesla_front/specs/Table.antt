@@ -1,4 +1,4 @@
--- A table of commands: which of them words name, and one run of it, with the console opened before and closed afterwards, and the history that it leaves.
+-- A table of commands, and one run of it. The console is opened before and closed afterwards, and the history that the run leaves stays.
 use Rattle.std.specs.Prelude.{◌≡◌, ◌≢◌, ◌⊎◌, ℕ, Bool, true, false, Option, None, IfSome, List, [], ◌∷◌, codes}
 use denote.Ref.{MutBor}
 use Rattle.std.specs.List.{list_any}

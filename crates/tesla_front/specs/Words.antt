@@ -1,4 +1,4 @@
--- The words that several commands share.
+-- The words that commands share: names of files, and the spelling of CAPACITY.
 use Rattle.std.specs.Prelude.{◌≡◌, ◌≢◌, ◌⊎◌, ◌==◌, Bool, ℕ, ◌≤◌, List, [], ◌++◌, codes, decimal}
 use Rattle.tesla_front.specs.declared.words.PacketLimits.{PacketLimits}
 

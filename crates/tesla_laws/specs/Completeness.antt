@@ -1,4 +1,4 @@
--- Where nothing fails and the inputs are in their grammars, a run of a live command comes to its end or lacks memory.
+-- Where nothing fails, a live run ends or lacks memory. The inputs are in their grammars.
 use Rattle.std.specs.Prelude.{◌≡◌, ◌⊎◌, ℕ, ◌<◌, Bool, List, length, Option, None, IfSome}
 use Rattle.tesla_capture.specs.Outline.{outline_of}
 use Rattle.tesla_commit.specs.Parts.{Parts}

@@ -1,4 +1,4 @@
--- When a follower tells of a stream and of those that it hands over to what is told where every epoch stays open.
+-- When a follower tells what is told where every epoch stays open.
 use Rattle.std.specs.Prelude.{◌≡◌, ◌≤◌, ℕ, Bool, true, false, List, [], length, map, Option, Some, None}
 use Rattle.std.specs.List.{AllByRecursion}
 use Rattle.tesla_base.specs.declared.release.Head.{Head}

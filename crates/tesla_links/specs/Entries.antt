@@ -1,4 +1,4 @@
--- What a contract sees of an index: its entries in the order in which they came.
+-- The entries of an index, in order of arrival, as contracts see them.
 use Rattle.std.specs.Prelude.{ℕ, ◌==◌, Bool, true, not, ◌&&◌, cond, List, [], ◌∷◌, map, Option, None, Some}
 use Rattle.std.specs.List.{filter}
 

@@ -1,5 +1,6 @@
--- How an index is kept: the slots in the order in which they came, and for each key in use a group, which is the
--- list of the slots under it. The marked slots stand in a list of their own, the others in the list of their group.
+-- How an index is kept. The slots are in the order in which they came, and for each key in use there is a group, which
+-- is the list of the slots under it. The marked slots stand in a list of their own, the others in the list of their
+-- group.
 use Rattle.std.specs.Prelude.{◌≡◌, ℕ, ◌==◌, ◌+◌, ◌<◌, ◌≤◌, Bool, true, not, List, length, map, get_or, Option, None, Some}
 use Rattle.std.specs.List.{filter}
 use Rattle.std.specs.Option.{unwrap_or}

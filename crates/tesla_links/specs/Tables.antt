@@ -1,4 +1,4 @@
--- How a table of keys is kept: the slots of each bucket stand in a list, the vacant ones in another.
+-- How a table of keys is kept. The slots of each bucket stand in a list, the vacant ones in another.
 use Rattle.std.specs.Prelude.{◌≡◌, ℕ, ◌+◌, ◌*◌, ◌/◌, ◌%◌, ◌^◌, ◌<◌, ◌≤◌, true, cond, List, length, map, get_or, Option, None, Some}
 use Rattle.std.specs.List.{range_with_len}
 use Rattle.tesla_base.specs.Members.{is_in}

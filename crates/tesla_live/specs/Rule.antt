@@ -1,4 +1,4 @@
--- The rule by which a run reads the time: a sender never ahead of the clock that the run began with, a receiver never behind it.
+-- The rule by which a run reads the time. A sender is never ahead of the clock that the run began with, and a receiver never behind it.
 use Rattle.std.specs.Prelude.{ℕ, ◌+◌, ◌-◌, ◌^◌, ◌==◌, min, max, Option, Some, None, if◌then◌else◌}
 use Rattle.tesla_live.specs.declared.command.Command.{Command}
 use Rattle.tesla_live.specs.declared.command.Command.TheVariants as commands

@@ -1,4 +1,4 @@
--- Calls that are numbered from 0 in the order in which they are made, and fail at listed numbers.
+-- Calls that are numbered from 0, and fail at listed numbers.
 use Rattle.std.specs.Prelude.{ℕ, ◌-◌, ◌^◌, ◌==◌, ◌&&◌, Bool, nat_lt, List, [], ◌∷◌, ◌++◌}
 use Rattle.std.specs.List.{list_any}
 use Rattle.tesla_desk.specs.Faults.{raised}

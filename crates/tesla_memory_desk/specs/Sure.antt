@@ -1,4 +1,4 @@
--- What a desk on which no call from outside fails has, and what it tells.
+-- A desk on which no outside call fails, and what it tells.
 use Rattle.std.specs.Prelude.{ℕ, false, List, [], Option, Some, None, option_map}
 use Rattle.tesla_desk.specs.Faults.{no_faults}
 use Rattle.tesla_desk.specs.Live.{Live, Wire, HoldsWire, UntoldMail}

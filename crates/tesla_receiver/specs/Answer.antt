@@ -1,4 +1,4 @@
--- The one answer of a receiver to each event.
+-- The verdict on an arrival, by the tests in their order.
 use Rattle.std.specs.Prelude.{ℕ, Bool, not, ◌&&◌, ◌||◌, List, [], ◌∷◌, ◌++◌, length, Option, Some, None, unwrap_or, option_map, nat_lt, ◌==◌, if◌then◌else◌, find}
 use Rattle.std.specs.List.{list_any}
 use Rattle.tesla_clock.specs.Schedule.{bound_of}

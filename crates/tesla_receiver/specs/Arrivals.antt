@@ -1,4 +1,4 @@
--- What is so of each arrival of a legal history: a kept packet was safe, a key that was taken was good, and a packet that is proved is released.
+-- What is so of each arrival of a legal history. A kept packet was safe, a key that was taken was good, and a packet that is proved is released.
 use Rattle.std.specs.Prelude.{◌≡◌, ℕ, ◌+◌, ◌<◌, ◌≤◌, true, false, List, [], ◌∷◌, ◌++◌, length, take, Some, slice_get}
 use Rattle.std.specs.List.{Contains, list_any}
 use Rattle.tesla_clock.specs.Safe.{has_chain}

@@ -1,4 +1,4 @@
--- How many packets have a place.
+-- Which packets have a place, and how many.
 use Rattle.std.specs.Prelude.{◌≤◌, ℕ, Bool, true, false, not, ◌&&◌, ◌||◌, List, take, Option, Some, None, nat_le, ◌==◌, count_by}
 use Rattle.std.specs.List.{list_any, list_all, enumerate_from}
 use Rattle.tesla_clock.specs.Safe.{has_chain}

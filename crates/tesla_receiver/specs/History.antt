@@ -1,4 +1,4 @@
--- Histories: what happened to a receiver, with its answers.
+-- Histories, the one answer to each event, and legal histories.
 use Rattle.std.specs.Prelude.{◌≡◌, ℕ, Bool, true, false, List, [], ◌∷◌, ◌++◌, Option, Some, None, slice_get, ◌==◌, count_by, flat_map}
 use Rattle.std.specs.List.{list_any, list_all, range_with_len}
 use Rattle.tesla_frame.specs.Frame.{Frame, Data, Disclosure}

@@ -1,4 +1,4 @@
--- Which keys frames carry, which of them are new, and which of them are good (RFC 4082, section 3.5, key tests).
+-- Which keys are taken, new and good (RFC 4082, section 3.5, key tests).
 use Rattle.std.specs.Prelude.{ℕ, Bool, true, false, not, ◌&&◌, ◌||◌, List, [], max, Option, Some, None, nat_lt, if◌then◌else◌, filter, fold, flat_map}
 use Rattle.std.specs.List.{list_all}
 use Rattle.tesla_frame.specs.declared.row.KeyRow.{KeyRow}

@@ -1,4 +1,4 @@
--- Which packets are safe on arrival, which keys prove them, and what is released (RFC 4082, section 3.5).
+-- Which keys prove a packet, and what is released (RFC 4082, section 3.5). Also which packets are safe on arrival.
 use Rattle.std.specs.Prelude.{ℕ, ◌-◌, Bool, false, ◌&&◌, List, [], ◌∷◌, Option, Some, None, slice_get, nat_lt, nat_le, bytes_eq, find, flat_map}
 use Rattle.std.specs.List.{list_any, enumerate_from}
 use Rattle.tesla_clock.specs.Safe.{has_chain}

@@ -1,5 +1,5 @@
--- What a receiver keeps of a history: the newest keys, the packets that have a place, those that wait to be given,
--- which ingests have ended, and the counts.
+-- What a receiver keeps of a history. These are the newest keys, the packets that have a place, those that wait to be
+-- given, which ingests have ended, and the counts.
 use Rattle.std.specs.Prelude.{◌≡◌, ℕ, List, [], ◌∷◌, length, map, take, drop, Option, Some, None, flat_map, if◌then◌else◌}
 use Rattle.std.specs.List.{list_any, enumerate_from, range_with_len}
 use Rattle.tesla_fitting.specs.declared.config.Config.{Config}

@@ -1,4 +1,4 @@
--- What is found at a place of a file from the bytes that are pending there.
+-- What pending bytes tell of a place of a file.
 use Rattle.std.specs.Prelude.{◌≡◌, ◌≢◌, ℕ, zero, suc, ◌+◌, ◌<◌, ◌≤◌, List, [], ◌++◌, length, drop, Option, Some, None}
 use Rattle.tesla_desk.specs.Outside.{after_bytes, Ends}
 use Rattle.tesla_desk.specs.declared.source.ReadStep.{ReadStep}

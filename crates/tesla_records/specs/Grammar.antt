@@ -1,4 +1,4 @@
--- Grammars of files: a head of a fixed size, and then records to the end of the file.
+-- What a file of records is, in any grammar. A head of a fixed size comes first, and then records to the end of the file.
 use Rattle.std.specs.Prelude.{◌≡◌, ℕ, ◌<◌, ◌≤◌, ◌^◌, List, [], ◌++◌, length, take, flat_map}
 use Rattle.std.specs.List.{AllByRecursion}
 use Rattle.tesla_base.specs.Prefix.{AreBytes}

@@ -1,4 +1,4 @@
--- Files of records read from left to right, record after record.
+-- The records of a file before its first refused place, and that place.
 use Rattle.std.specs.Prelude.{ℕ, ◌+◌, ◌-◌, zero, suc, List, [], ◌∷◌, ◌++◌, length, take, drop, Option, Some, None, nat_lt, nat_eq, if◌then◌else◌}
 use Rattle.tesla_records.specs.Grammar.{Parsed, Awaits, Whole, Bad, Grammar, ParsedHead, AwaitsHead, HeadIs, NoHead, limit}
 use Rattle.tesla_records.specs.declared.refusal.Refusal.{Refusal}

@@ -1,4 +1,4 @@
--- A small grammar for the tests of this crate: a head of one byte, and records of up to 200 bytes, each behind their number.
+-- A small grammar for the tests of this crate. It has a head of one byte, and records of up to 200 bytes, each behind their number.
 use Rattle.std.specs.Prelude.{◌≡◌, ℕ, suc, ◌<◌, ◌≤◌, Bool, true, false, List, [], ◌∷◌, ◌++◌, length, take, nat_lt, ◌==◌, if◌then◌else◌}
 use Rattle.std.proofs.Common.{refl, sym, ap, subst, ◌∙◌, arith}
 use Rattle.std.proofs.lemmas.Bool.{eqb-true, eq-eqb, le-ltb, ltb-true, ltb-false}

@@ -1,4 +1,4 @@
--- What a reader has ahead, and what one step says of the file that it reads.
+-- What a reader has ahead, and what one step says of its file.
 use Rattle.std.specs.Prelude.{◌≡◌, ◌⊎◌, ℕ, zero, suc, ◌+◌, ◌<◌, Bool, true, false, List, [], ◌++◌, length, drop, Option, Some}
 use Rattle.tesla_desk.specs.Outside.{after_bytes}
 use Rattle.tesla_records.specs.Grammar.{Grammar}

@@ -1,4 +1,4 @@
--- The records that were taken from the start of a file, and what of a file holds no refused place.
+-- Records taken from the start of a file, and bytes without a refused place.
 use Rattle.std.specs.Prelude.{◌≡◌, ◌⊎◌, ℕ, List, ◌++◌, length, Option, Some, None}
 use Rattle.tesla_records.specs.Grammar.{Grammar, AwaitsHead}
 use Rattle.tesla_records.specs.Records.{outline_of, outline_at, with_head, with_records}

@@ -1,4 +1,4 @@
--- What is told of the clock of a run that sends to posts.
+-- Which readings the clock gave in a run that sends to posts.
 use Rattle.std.specs.Prelude.{◌≡◌, ℕ, ◌-◌, ◌^◌, ◌<◌, List, length, Option, Some}
 use Rattle.tesla_desk.specs.Clocks.{readings_from}
 

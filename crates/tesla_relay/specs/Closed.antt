@@ -1,4 +1,4 @@
--- What is known once posts were closed.
+-- What is known once posts were closed: one sent nothing, or these datagrams.
 use Rattle.std.specs.Prelude.{◌≡◌, ◌⊎◌, ℕ, ◌<◌, Bool, false, List, [], ◌∷◌, map}
 use Rattle.tesla_desk.specs.Faults.{HasCause}
 use Rattle.tesla_desk.specs.Live.{Mail, UntoldMail, AbsentMail, HoldsMail, mail_of}

@@ -1,4 +1,4 @@
--- How many datagrams were sent.
+-- How many datagrams a post sent.
 use Rattle.std.specs.Prelude.{◌≡◌, ℕ, ◌-◌, ◌^◌, ◌<◌, min, Bool, true, false, List, length}
 
 -- a number as a counter of 64 bits tells it, which stands still at its end

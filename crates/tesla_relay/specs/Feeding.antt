@@ -1,4 +1,4 @@
--- What stands in the queue before a post, and what its feed and its server have done with it.
+-- What stands in a post's queue, and what its feed and server have done.
 use Rattle.std.specs.Prelude.{◌≡◌, ℕ, ◌+◌, ◌-◌, ◌^◌, ◌≤◌, Bool, true, false, List, [], ◌∷◌, ◌++◌, length, take, min, flat_map}
 use Rattle.std.specs.Arc.{arc_value}
 use Rattle.std.specs.List.{AllByRecursion, Contains}

@@ -1,4 +1,5 @@
--- The rule of a queue: what was put in is what was taken out and then what it holds, and a link brought it, in order and each once. One pass at most puts in, and it has the list of what was put in; the same for what is taken out.
+-- The rule of a queue. What was put in is what was taken out and then what it holds, and a link brought it, in order
+-- and each once. One pass at most puts in, and it has the list of what was put in; the same for what is taken out.
 use Rattle.std.specs.Prelude.{◌≡◌, ℕ, Bool, true, false, List, [], ◌∷◌, ◌++◌, take, flat_map}
 use mathlib.Core.Option.{some}
 use lib.ListN.{get_elem?}

@@ -1,4 +1,4 @@
--- What is told of a link whose letters are sent on, once it is closed.
+-- Which letters left a link, and whether it ended or failed.
 use Rattle.std.specs.Prelude.{◌≡◌, true, false, List, [], ◌++◌, Option, Some, None}
 use Rattle.tesla_desk.specs.Live.{Remainder, Wire, UntoldWire, AbsentWire, HoldsWire}
 use Rattle.tesla_desk.specs.declared.link.Letter.{Letter}

@@ -1,4 +1,4 @@
--- What was offered to the queues before posts, and when a link may be asked for its next letter.
+-- What was offered to queues, and when a link may be asked again. Queues stand before posts, and the link is asked for its next letter.
 use Rattle.std.specs.Prelude.{◌≡◌, ◌⊎◌, ℕ, ◌-◌, ◌^◌, ◌<◌, ◌≤◌, Bool, true, List, [], ◌∷◌, length}
 use Rattle.tesla_relay.specs.Lists.{FeedsOn}
 use Rattle.tesla_relay.specs.declared.feed.Feed.{Feed}

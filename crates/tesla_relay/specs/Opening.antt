@@ -1,4 +1,4 @@
--- What the opening and the closing of posts under several names do to what a desk tells.
+-- What the opening and the closing of posts do to what a desk tells.
 use Rattle.std.specs.Prelude.{◌≡◌, ◌⊎◌, ℕ, List, [], ◌∷◌, ◌++◌, IfSome, Result, Ok, Err}
 use denote.Ref.{Bor}
 use Rattle.tesla_desk.specs.Outside.{Told, OpensPost, ClosesPost}

@@ -1,4 +1,4 @@
--- The play of a capture: which arrivals are handed to the posts, after which readings of the clock, and what the posts send.
+-- Which arrivals of a capture are played, which readings let them pass, and what posts send.
 use Rattle.std.specs.Prelude.{◌≡◌, ◌⊎◌, ℕ, ◌<◌, ◌≤◌, ◌^◌, List, [], ◌∷◌, ◌++◌, length, map, flat_map, Option, Some, None}
 use Rattle.std.specs.List.{AllByRecursion}
 use Rattle.tesla_capture.specs.Capture.{Record, Arrives, Takes, capture}

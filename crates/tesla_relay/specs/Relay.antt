@@ -1,4 +1,4 @@
--- What a relay does: which datagrams it drops for a post, and what each post sends.
+-- Which datagrams a relay keeps and drops, and what each post sends. One may be dropped for a post only behind so many that were kept.
 use Rattle.std.specs.Prelude.{◌≡◌, ℕ, suc, ◌≤◌, Bool, true, false, List, [], ◌∷◌, length, take, Option, IfSome}
 use Rattle.tesla_desk.specs.Faults.{HasCause}
 use Rattle.tesla_desk.specs.Links.{after_letters, datagrams}

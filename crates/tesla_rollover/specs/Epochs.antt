@@ -1,4 +1,4 @@
--- The one answer to each call, and which histories are legal.
+-- The one answer to each call, and legal histories of epochs.
 use Rattle.std.specs.Prelude.{◌≡◌, ℕ, suc, ◌-◌, Bool, not, List, [], ◌∷◌, ◌++◌, length, map, Option, Some, None, unwrap_or, option_map, Result, Ok, Err, ◌==◌, if◌then◌else◌}
 use Rattle.std.specs.List.{list_any, range_with_len, position}
 use Rattle.tesla_base.specs.declared.names.StreamId.{StreamId}

@@ -1,4 +1,4 @@
--- Histories of epochs that grow by events, and how one with a single ingest is finished.
+-- Histories of epochs that grow by events, and how one is finished. It has one ingest.
 use Rattle.std.specs.Prelude.{ℕ, suc, true, List, [], ◌∷◌, ◌++◌, replicate, sum_by}
 use Rattle.std.specs.List.{range_with_len}
 use Rattle.tesla_fitting.specs.declared.config.Config.{Config}

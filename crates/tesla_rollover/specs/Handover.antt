@@ -1,4 +1,4 @@
--- The payload that names the setup of the stream that comes next.
+-- The payload that names the setup of the next stream.
 use Rattle.std.specs.Prelude.{◌≡◌, ℕ, List, [], ◌∷◌, ◌++◌, take, drop, Option, Some, None, Result, Ok, Err, codes, bytes_eq, if◌then◌else◌}
 use Rattle.tesla_commit.specs.Parsing.{judged}
 use Rattle.tesla_commit.specs.Parts.{Parts}

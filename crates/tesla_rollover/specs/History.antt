@@ -1,4 +1,4 @@
--- The history of a stream and of those that it hands over to, and in it the history of each epoch's receiver.
+-- The history of a feed's epochs, and in it that of each epoch's receiver.
 use Rattle.std.specs.Prelude.{ℕ, suc, Bool, true, false, ◌&&◌, List, [], ◌∷◌, ◌++◌, length, map, filter, Option, Some, None, slice_get, get_or, nat_lt, ◌==◌, if◌then◌else◌, count_by, flat_map}
 use Rattle.std.specs.List.{list_any, range_with_len}
 use Rattle.tesla_commit.specs.Parts.{Parts}

@@ -1,4 +1,4 @@
--- What the inner calls see of the epochs that are open, and what comes of them.
+-- What the inner calls see of open epochs. Also what comes of them.
 use Rattle.std.specs.Prelude.{◌≡◌, ◌≢◌, ◌≤◌, ◌<◌, ◌^◌, ℕ, ◌+◌, List, [], ◌∷◌, ◌++◌, length, map, filter, take, drop}
 use Rattle.std.specs.List.{range_with_len, AllByRecursion}
 use Rattle.tesla_base.specs.declared.release.Head.{Head}

@@ -1,4 +1,4 @@
--- What is so of the epochs of a legal history: where a setup came from, and where a packet that was given did.
+-- What is so of a legal history: where setups and given packets came from.
 use Rattle.std.specs.Prelude.{◌≡◌, ◌≢◌, ◌≤◌, ◌<◌, ℕ, suc, List, [], ◌∷◌, ◌++◌, length, map, take, Some, None, slice_get}
 use Rattle.tesla_base.specs.declared.release.Head.{Head}
 use Rattle.tesla_fitting.specs.declared.config.Config.{Config}

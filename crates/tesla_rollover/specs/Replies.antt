@@ -1,4 +1,4 @@
--- What a take answers, with the bytes that it fills in.
+-- What a take of several epochs answers, with the bytes that it fills in.
 use Rattle.std.specs.Prelude.{◌≡◌, ◌≤◌, ℕ, ◌+◌, Bool, true, false, List, [], ◌∷◌, ◌++◌, take, drop, Option, Some, None, if◌then◌else◌}
 use Rattle.std.specs.List.{list_all}
 use Rattle.tesla_base.specs.declared.release.Head.{Head}

@@ -1,4 +1,4 @@
--- What is kept of a history of epochs: of each epoch what its receiver keeps.
+-- What is kept of a history of epochs: what each receiver keeps.
 use Rattle.std.specs.Prelude.{◌≡◌, ℕ, List, [], ◌∷◌, length, map}
 use Rattle.std.specs.List.{range_with_len}
 use Rattle.tesla_fitting.specs.declared.config.Config.{Config}

@@ -1,4 +1,4 @@
--- What the words of the commands ask and reply ask for.
+-- Which words are ask and reply, and their files in order.
 use Rattle.std.specs.Prelude.{ℕ, List, [], ◌∷◌, codes}
 use Rattle.tesla_desk.specs.Outside.{Opening, OfSource, OfSink}
 use Rattle.tesla_front.specs.Forms.{AreSpelled, NameIs, NumberIs, WordIs}

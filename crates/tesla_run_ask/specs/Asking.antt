@@ -1,4 +1,4 @@
--- What the command ask does.
+-- What ask comes to, and what ASK-OUT holds.
 use Rattle.std.specs.Prelude.{ℕ, List, [], ◌∷◌, codes}
 use Rattle.tesla_desk.specs.Outside.{Page}
 use Rattle.tesla_front.specs.OutcomeView.{OutcomeView}

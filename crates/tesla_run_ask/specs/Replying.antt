@@ -1,4 +1,4 @@
--- What the command reply does.
+-- What reply comes to, and what REPLY-OUT holds.
 use Rattle.std.specs.Prelude.{◌≡◌, ◌≢◌, ◌⊎◌, ◌≤◌, ℕ, List, [], ◌∷◌, codes}
 use Rattle.tesla_base.specs.declared.names.Key.{Key}
 use Rattle.tesla_desk.specs.Outside.{Page}

@@ -1,4 +1,4 @@
--- What the inner steps of the command reply come to.
+-- What the inner steps of reply come to.
 use Rattle.std.specs.Prelude.{◌≡◌, ◌⊎◌, ℕ, Result, Ok, Err, List, [], ◌∷◌, codes}
 use Rattle.tesla_base.specs.declared.names.Key.{Key}
 use Rattle.tesla_desk.specs.Outside.{Told, OfSink}

@@ -1,4 +1,4 @@
--- What the words of the command audit ask for.
+-- Which words are audit, and its files in order.
 use Rattle.std.specs.Prelude.{ℕ, ℤ, List, [], ◌∷◌, codes}
 use Rattle.tesla_commit.specs.Parts.{Parts}
 use Rattle.tesla_desk.specs.Outside.{Opening, OfSource}

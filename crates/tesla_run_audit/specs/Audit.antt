@@ -1,4 +1,4 @@
--- What the command audit does.
+-- What audit comes to, by the bytes of a trace.
 use Rattle.std.specs.Prelude.{◌≡◌, ◌≢◌, ◌⊎◌, ℕ, ◌≤◌, Bool, Option, Some, None, unwrap_or, List, [], ◌∷◌, ◌++◌, length, codes, decimal}
 use Rattle.tesla_commit.specs.Parts.{Parts}
 use Rattle.tesla_convert.specs.Meaning.{StopsAtSetup}

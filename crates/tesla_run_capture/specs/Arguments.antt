@@ -1,4 +1,4 @@
--- What the words of the command capture ask for.
+-- Which words are capture, and what is opened in order.
 use Rattle.std.specs.Prelude.{ℕ, List, [], ◌∷◌, codes}
 use Rattle.tesla_desk.specs.Outside.{Opening, OfLink, OfSink}
 use Rattle.tesla_front.specs.Forms.{AreSpelled, NameIs, WordIs}

@@ -1,4 +1,4 @@
--- What the command capture does.
+-- What capture comes to, and what its file holds.
 use Rattle.std.specs.Prelude.{◌≡◌, ◌≢◌, ◌⊎◌, ℕ, ◌+◌, ◌≤◌, true, false, List, [], ◌∷◌, ◌++◌, length, map, Option, Some, None, codes}
 use Rattle.std.specs.Option.{option_map}
 use Rattle.tesla_capture.specs.Capture.{IsCapture}

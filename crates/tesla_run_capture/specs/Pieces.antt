@@ -1,4 +1,4 @@
--- What a capture may write while it runs: pieces that make the capture of what its link has brought so far.
+-- What capture may write while it runs. These are pieces that make the capture of what its link has brought so far.
 use Rattle.std.specs.Prelude.{◌≡◌, ℕ, Bool, true, List, ◌++◌, map, Option, Some, IfSome}
 use Rattle.std.specs.List.{slice_get}
 use Rattle.tesla_capture.specs.Capture.{IsCapture}

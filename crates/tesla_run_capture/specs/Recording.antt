@@ -1,4 +1,4 @@
--- What is recorded of a link that is open, with an open clock and an open sink.
+-- What is recorded of an open link, with an open clock and an open sink.
 use Rattle.std.specs.Prelude.{◌≡◌, ◌⊎◌, ℕ, ◌+◌, ◌<◌, ◌≤◌, Bool, true, false, List, [], ◌++◌, length, map, Option, IfSome, Result, Ok, Err}
 use Rattle.std.specs.List.{AllByRecursion}
 use Rattle.tesla_capture.specs.Capture.{IsCapture, limit}

@@ -1,4 +1,4 @@
--- A run of the command between its openings and its end.
+-- A run of capture between its openings and its end.
 use Rattle.std.specs.Prelude.{◌≡◌, ◌⊎◌, ℕ, ◌<◌, List, Option, Result, Ok, Err}
 use Rattle.std.specs.Option.{option_map}
 use Rattle.tesla_desk.specs.Faults.{HasCause, HasCauseBeside, raised}

@@ -1,4 +1,4 @@
--- What the commands chain and chain2 do.
+-- The setup that seeds make, and what SETUP-OUT holds.
 use Rattle.std.specs.Prelude.{◌≡◌, ◌⊎◌, ◌≤◌, ℕ, List, [], ◌∷◌, length, codes}
 use Rattle.tesla_base.specs.declared.names.Key.{Key}
 use Rattle.tesla_commit.specs.Parts.{Parts}

@@ -1,4 +1,4 @@
--- What the command early does.
+-- What early comes to, and what OUT holds.
 use Rattle.std.specs.Prelude.{ℕ, List, codes}
 use Rattle.tesla_fitting.specs.declared.config.Config.{Config}
 use Rattle.tesla_front.specs.Command.{Command}

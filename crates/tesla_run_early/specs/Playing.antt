@@ -1,4 +1,4 @@
--- What is written of each event that is played to a receiver that accepts promised messages on arrival, and told of all.
+-- What is written of each event that is played, and told of all.
 use Rattle.std.specs.Prelude.{◌≡◌, ◌≤◌, ℕ, List, [], ◌++◌, codes}
 use Rattle.tesla_fitting.specs.declared.config.Config.{Config}
 use Rattle.tesla_front.specs.Lines.{count_line}

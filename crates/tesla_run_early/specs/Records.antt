@@ -1,4 +1,4 @@
--- What is written of a history: the packets that were given, and the messages that were accepted on arrival.
+-- What is written of given packets and of messages accepted on arrival.
 use Rattle.std.specs.Prelude.{ℕ, ◌==◌, List, [], Option, Some, None, cond, if◌then◌else◌}
 use Rattle.tesla_capture.specs.Release.{accepted_text, marked_text}
 use Rattle.tesla_receiver.specs.Entries.{Entry}

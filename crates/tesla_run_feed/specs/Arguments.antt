@@ -1,4 +1,4 @@
--- What the words of the command feed ask for.
+-- Which words are feed, and what is opened in order.
 use Rattle.std.specs.Prelude.{◌≡◌, ℕ, ◌≤◌, List, [], ◌∷◌, ◌++◌, Option, Some, None, IfSome, codes, length, map}
 use Rattle.std.specs.Option.{option_map}
 use Rattle.tesla_desk.specs.Outside.{Opening, OfLink, OfPost, OfSink, OfSource}

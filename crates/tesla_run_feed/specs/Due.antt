@@ -1,4 +1,4 @@
--- What the command feed may send and write while it runs.
+-- What feed may send, and write to STATUS, while it runs.
 use Rattle.std.specs.Prelude.{◌≡◌, ◌⊎◌, ℕ, ◌*◌, Bool, true, List, flat_map, Option, Some, None, IfSome}
 use Rattle.std.specs.List.{Contains}
 use Rattle.tesla_clock.specs.Schedule.{Times}

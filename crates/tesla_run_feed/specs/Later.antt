@@ -1,4 +1,4 @@
--- The senders of the later streams of a list, while they are handed to the feed.
+-- The later streams' senders, while they are handed to the feed.
 use Rattle.std.specs.Prelude.{◌≡◌, ℕ, ◌+◌, ◌==◌, Bool, ◌&&◌, List, ◌∷◌, drop}
 use Rattle.tesla_sender.specs.Made.{Stream}
 use Rattle.tesla_sender.specs.Stands.{State}

@@ -1,4 +1,4 @@
--- What the inner steps of the command feed come to.
+-- What the inner steps of feed come to.
 use Rattle.std.specs.Prelude.{◌≡◌, ◌⊎◌, ℕ, ◌+◌, ◌*◌, Bool, true, false, Option, Some, None, List, [], ◌∷◌, ◌++◌, ◌≤◌, length, map, Result, Ok, Err}
 use Rattle.std.specs.List.{list_all}
 use Rattle.tesla_clock.specs.Schedule.{Times}

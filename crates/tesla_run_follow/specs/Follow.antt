@@ -1,4 +1,4 @@
--- What the command follow does.
+-- Which setups follow takes, and what it does.
 use Rattle.std.specs.Prelude.{◌≡◌, ◌⊎◌, None, Option}
 use Rattle.tesla_commit.specs.Equal.{first_equal}
 use Rattle.tesla_commit.specs.Parts.{Parts}

@@ -1,4 +1,4 @@
--- What follow tells at the end.
+-- What follow prints at the end.
 use Rattle.std.specs.Prelude.{ℕ, List, ◌++◌, length, codes}
 use Rattle.tesla_follow.specs.Counted.{report_over}
 use Rattle.tesla_follow.specs.Followed.{Followed}

@@ -1,4 +1,4 @@
--- What a live run needs to be allowed, told the words and the setup: what may be written while it runs, whether or not it ends.
+-- What a live run may write while it runs, told the words and the setup. It holds whether or not the run ends.
 use Rattle.std.specs.Prelude.{◌≡◌, ℕ, Bool, true, List, Option, Some, slice_get}
 use Rattle.tesla_commit.specs.Parts.{Parts}
 use Rattle.tesla_desk.specs.Outside.{Told}

@@ -1,4 +1,4 @@
--- What the words of the command receive ask for.
+-- Which words are receive, and what is opened in order.
 use Rattle.std.specs.Prelude.{◌≡◌, ◌≢◌, ℕ, ℤ, List, [], ◌∷◌, length, map, ◌≤◌, codes, FitsSigned}
 use Rattle.std.specs.Fmt.{signed_decimal}
 use Rattle.std.specs.Int.{w64}

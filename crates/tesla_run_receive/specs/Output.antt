@@ -1,4 +1,4 @@
--- What a command does that is receive with one output more, opened behind the sinks.
+-- What a command does that is receive with one output more. It is opened behind the sinks.
 use Rattle.std.specs.Prelude.{◌≡◌, ◌⊎◌, ℕ, suc, true, List, [], ◌∷◌, ◌++◌, length, take, drop, Option, Some}
 use Rattle.tesla_commit.specs.Parts.{Parts}
 use Rattle.tesla_desk.specs.Live.{Live}

@@ -1,4 +1,4 @@
--- What the words of a command with one output more ask for.
+-- Which words are a command with one output more.
 use Rattle.std.specs.Prelude.{◌≡◌, ◌≢◌, ℕ, List, [], ◌∷◌, codes}
 use Rattle.tesla_front.specs.Words.{IsName, IsNumberWithin}
 use Rattle.tesla_run_receive.specs.Arguments.{ReceiveArguments, IsReceive, AreOthers}

@@ -1,4 +1,4 @@
--- What the command receive does, and what commands over other stations do as it does.
+-- What receive does: one legal history, and what links, clocks and sinks have of it. Commands over other stations do as it does.
 use Rattle.std.specs.Prelude.{◌≡◌, ◌⊎◌, ℕ, zero, suc, ◌<◌, ◌≤◌, true, false, List, [], ◌∷◌, ◌++◌, length, map, drop, Option, Some, None}
 use Rattle.std.specs.List.{list_all, Contains}
 use Rattle.tesla_commit.specs.Parts.{Parts}

@@ -1,4 +1,4 @@
--- What a live run comes to: the workers of a station, and what a command has beside them.
+-- What a live run comes to: its workers, and what is beside them.
 use Rattle.std.specs.Prelude.{◌≡◌, ◌⊎◌, ◌||◌, ℕ, Bool, true, false, List, [], ◌∷◌, ◌++◌, Option, Some, None, Ok}
 use Rattle.std.specs.List.{list_any}
 use Rattle.tesla_fitting.specs.declared.verdict.Verdict.{Verdict}

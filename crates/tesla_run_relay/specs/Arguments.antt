@@ -1,4 +1,4 @@
--- What the words of the command relay ask for.
+-- Which words are relay, and what is opened in order.
 use Rattle.std.specs.Prelude.{ℕ, List, [], ◌∷◌, codes, map}
 use Rattle.tesla_desk.specs.Outside.{Opening, OfLink, OfPost}
 use Rattle.tesla_front.specs.Forms.{AreSpelled, NameIs, NamesAre, NumberIs, WordIs}

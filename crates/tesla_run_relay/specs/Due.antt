@@ -1,4 +1,4 @@
--- Which datagram a post is to send next in a run of the command relay, and when its link may be asked.
+-- Which datagram a post of relay may send next, and when its link may be asked.
 use Rattle.std.specs.Prelude.{◌≡◌, ℕ, Bool, List, [], ◌∷◌, ◌++◌, length, map, Option, IfSome}
 use Rattle.std.specs.List.{Contains}
 use Rattle.tesla_relay.specs.Numbered.{AreBrought, Numbered, datagram_of}

@@ -1,4 +1,4 @@
--- What the command relay does.
+-- What posts of relay sent of its link's datagrams, and how it ends.
 use Rattle.std.specs.Prelude.{◌≡◌, ◌≢◌, ◌⊎◌, ℕ, suc, Bool, true, false, List, [], ◌∷◌, length, Option}
 use Rattle.std.specs.List.{list_any}
 use Rattle.tesla_desk.specs.Links.{datagrams}

@@ -1,4 +1,4 @@
--- A run of the command between the opening of its link and the closings.
+-- A run of relay between the opening of its link and the closings.
 use Rattle.std.specs.Prelude.{◌≡◌, ◌⊎◌, ℕ, List, Option, Result, Ok, Err, IfOk, MatchResult, OnErr}
 use Rattle.std.specs.List.{list_any}
 use Rattle.tesla_base.specs.declared.memory.NoMemory.{NoMemory}

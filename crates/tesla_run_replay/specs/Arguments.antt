@@ -1,4 +1,4 @@
--- What the words of a command ask for that plays a capture under a setup.
+-- Which words are a command that plays a capture, and its files in order. It plays it under a setup.
 use Rattle.std.specs.Prelude.{◌≡◌, ◌≢◌, ℕ, ℤ, List, [], ◌∷◌, codes, FitsSigned}
 use Rattle.std.specs.Fmt.{signed_decimal}
 use Rattle.std.specs.Int.{w64}

@@ -1,4 +1,4 @@
--- The events that the records of a capture play, one after another, and what is written of each.
+-- The events that a capture's records play, and what is written of each. They are played one after another.
 use Rattle.std.specs.Prelude.{◌≡◌, ◌≤◌, ℕ, suc, Bool, true, false, Option, Some, None, is_none, List, [], ◌∷◌, ◌++◌, length, map, replicate}
 use Rattle.tesla_capture.specs.Capture.{Record, capture}
 use Rattle.tesla_capture.specs.Outline.{outline_of}

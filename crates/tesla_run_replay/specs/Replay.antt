@@ -1,4 +1,4 @@
--- What the command replay does.
+-- What replay comes to, and what OUT holds.
 use Rattle.std.specs.Prelude.{ℕ, is_none, Option, Some, None, false, List, codes}
 use Rattle.tesla_capture.specs.Capture.{capture}
 use Rattle.tesla_capture.specs.Outline.{outline_of}

@@ -1,4 +1,4 @@
--- What the words of the command roll ask for.
+-- Which words are roll, and its files in order.
 use Rattle.std.specs.Prelude.{ℕ, List, codes}
 use Rattle.tesla_run_replay.specs.Arguments.{IsPlayed, PlayedArguments, PlayedForm}
 use Rattle.tesla_run_replay.specs.declared.arguments.Capacity.TheVariants as capacities

@@ -1,4 +1,4 @@
--- The one history of epochs that a capture plays, and the records of what its takes give.
+-- The history of epochs that a capture plays, and its records.
 use Rattle.std.specs.Prelude.{◌≡◌, ℕ, Bool, true, false, not, ◌&&◌, Some, None, List, [], ◌∷◌, ◌++◌, map, ◌==◌, if◌then◌else◌, flat_map}
 use Rattle.tesla_capture.specs.Capture.{Record}
 use Rattle.tesla_capture.specs.Release.{marked_text}

@@ -1,4 +1,4 @@
--- What the command roll does.
+-- What roll comes to, its lines, and what OUT holds.
 use Rattle.std.specs.Prelude.{ℕ, true, false, is_none, List, [], ◌++◌, codes}
 use Rattle.tesla_capture.specs.Outline.{outline_of}
 use Rattle.tesla_fitting.specs.declared.config.Config.{Config}

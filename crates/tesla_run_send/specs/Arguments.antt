@@ -1,4 +1,4 @@
--- What the words of the command send ask for.
+-- Which words are send, and its files in order.
 use Rattle.std.specs.Prelude.{ℕ, List, [], ◌∷◌, codes}
 use Rattle.tesla_desk.specs.Outside.{Opening, OfSource, OfSink}
 use Rattle.tesla_front.specs.Forms.{AreSpelled, NameIs, WordIs}

@@ -1,4 +1,4 @@
--- What a sender makes of a script: the frames, and the first record that is refused.
+-- The frames that a sender makes of a script, its first refused record, and their capture.
 use Rattle.std.specs.Prelude.{ℕ, ◌+◌, List, [], ◌∷◌, ◌++◌, length, Option, Some, None, Result, Ok, Err}
 use Rattle.std.specs.List.{flat_map}
 use Rattle.tesla_capture.specs.Capture as captures

@@ -1,4 +1,4 @@
--- Why a script is refused at a place.
+-- Why a script is refused at a place, and what each kind is called.
 use Rattle.std.specs.Prelude.{ℕ, List, codes}
 use Rattle.tesla_capture.specs.declared.record.RecordKind.{RecordKind}
 use Rattle.tesla_capture.specs.declared.record.RecordKind.TheVariants as files

@@ -1,4 +1,4 @@
--- What the command send does.
+-- What send comes to, and what CAPTURE holds.
 use Rattle.std.specs.Prelude.{◌≡◌, ◌⊎◌, ℕ, Option, Some, None, List, [], ◌∷◌, length, codes}
 use Rattle.tesla_capture.specs.Records.{outline_of}
 use Rattle.tesla_capture.specs.Script.{script}

@@ -1,4 +1,4 @@
--- What the inner steps of the command send come to.
+-- What the inner steps of send come to.
 use Rattle.std.specs.Prelude.{◌≡◌, ◌+◌, ℕ, suc, Option, Result, Ok, Err, List, [], ◌∷◌, ◌++◌}
 use Rattle.tesla_capture.specs.Gathering.{Gathers}
 use Rattle.tesla_capture.specs.Script.{Record}

@@ -1,4 +1,4 @@
--- What the words of the command stress ask for.
+-- Which words are stress.
 use Rattle.std.specs.Prelude.{ℕ, List, [], ◌∷◌, codes}
 use Rattle.tesla_desk.specs.Outside.{Opening}
 use Rattle.tesla_front.specs.Forms.{AreSpelled, NumberIs, WordIs}

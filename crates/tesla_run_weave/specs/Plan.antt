@@ -1,4 +1,4 @@
--- What is kept of a script, and the records that are made of it with other payloads.
+-- What is kept of a script, and its records with other payloads.
 use Rattle.std.specs.Prelude.{◌≡◌, ℕ, ◌≤◌, List, [], ◌∷◌, ◌++◌, length, map}
 use Rattle.std.specs.List.{All}
 use Rattle.tesla_base.specs.declared.names.Name.{Name}

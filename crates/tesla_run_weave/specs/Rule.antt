@@ -1,4 +1,4 @@
--- What becomes of each record of a script, behind those before it: which are refused, and the names of the messages.
+-- Which records of a script are refused, and the names of its messages. Each record is judged behind those before it.
 use Rattle.std.specs.Prelude.{ℕ, List, [], ◌∷◌, ◌++◌, length, Option, Some, None, Result, Ok, Err, nat_lt, if◌then◌else◌}
 use Rattle.std.specs.List.{flat_map}
 use Rattle.tesla_base.specs.declared.names.Name.{Name}

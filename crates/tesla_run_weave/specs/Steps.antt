@@ -1,4 +1,4 @@
--- What the inner steps of the command weave come to.
+-- What the inner steps of weave come to.
 use Rattle.std.specs.Prelude.{◌≡◌, ◌⊎◌, ℕ, ◌≤◌, suc, Bool, true, false, Option, Some, None, Result, Ok, Err, IfErr, List, [], ◌∷◌, ◌++◌}
 use Rattle.tesla_base.specs.declared.names.Name.{Name}
 use Rattle.tesla_capture.specs.Records.{outline_of}

@@ -1,4 +1,4 @@
--- What the command weave does.
+-- What weave comes to, and what SCRIPT-OUT holds.
 use Rattle.std.specs.Prelude.{◌≡◌, ◌≢◌, ◌⊎◌, ℕ, ◌≤◌, Option, Some, None, List, [], ◌∷◌, ◌++◌, length, codes}
 use Rattle.tesla_capture.specs.Records.{outline_of}
 use Rattle.tesla_capture.specs.Script.{Record, script, script_text}

@@ -1,4 +1,4 @@
--- Which seeds a text spells where so many are wanted, or the first line that is refused with its kind.
+-- Which seeds a text spells, or its first refused line with its kind. So many seeds are wanted.
 use Rattle.std.specs.Prelude.{◌≡◌, ℕ, zero, suc, ◌+◌, Bool, false, List, [], ◌∷◌, length, Result, Ok, Err, codes, nat_lt, ◌==◌, if◌then◌else◌}
 use Rattle.std.specs.Str.{bytes_eq}
 use Rattle.tesla_base.specs.declared.names.Key.{Key}

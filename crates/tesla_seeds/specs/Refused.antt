@@ -1,4 +1,4 @@
--- Why a text spells no seeds, where so many are wanted, and at which line.
+-- Why a text spells no seeds, and at which line. So many seeds are wanted.
 use Rattle.std.specs.Prelude.{◌≡◌, ◌≢◌, ◌⊎◌, ℕ, zero, suc, ◌<◌, ◌≤◌, List, [], ◌∷◌, ◌++◌, length, map, codes}
 use Rattle.std.specs.List.{AllByRecursion}
 use Rattle.hex.specs.Hex.{encode_lower}

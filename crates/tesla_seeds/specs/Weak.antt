@@ -1,4 +1,4 @@
--- Which seeds give a chain no safety: one that is all zeros, and one that a chain before has.
+-- Which seeds are weak: all zeros, or one that a chain before has.
 use Rattle.std.specs.Prelude.{◌≡◌, ℕ, ◌<◌, Option, Some, None, List, length, take, slice_get, codes, if◌then◌else◌}
 use Rattle.std.specs.List.{list_any}
 use Rattle.std.specs.Str.{bytes_eq}

@@ -1,4 +1,4 @@
--- What a contract sees of a chain of a sender.
+-- A sender's chain as contracts see it, and when its seed is right.
 use Rattle.std.specs.Prelude.{◌≡◌, ℕ, zero, suc, ◌+◌, ◌^◌, ◌<◌, ◌≤◌, Bool, true, false, ◌⊎◌, List, [], ◌∷◌, ◌++◌, Result, Ok, Err, bytes_eq, min}
 use Rattle.std.specs.List.{sum_by}
 use Rattle.circular_buffer.specs.Buffer.{Buffer, buffer, keep_last}

@@ -1,4 +1,4 @@
--- What a sender makes: the answer to a message or a disclosure, after the calls that it accepted before (RFC 4082, sections 3.2 to 3.4).
+-- The one answer of a sender to a message or a disclosure (RFC 4082, sections 3.2 to 3.4). It hangs on the calls that were accepted before.
 use Rattle.std.specs.Prelude.{ℕ, ◌+◌, ◌-◌, Bool, false, List, [], ◌∷◌, length, map, Option, Some, None, Result, Ok, Err, nat_le, nat_lt, ◌==◌, if◌then◌else◌, min, unwrap_or}
 use Rattle.std.specs.List.{count_by, flat_map, fold, list_all, list_any}
 use Rattle.tesla_base.specs.declared.names.Key.{Key}

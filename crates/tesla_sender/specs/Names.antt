@@ -1,4 +1,4 @@
--- The calls of a stream without its seeds: which are accepted, and the names of the messages.
+-- Which calls of a stream are accepted, and message names, without seeds.
 use Rattle.std.specs.Prelude.{◌≡◌, ℕ, ◌+◌, Bool, List, [], ◌∷◌, ◌++◌, Result, Ok, Err, IsOk, nat_lt}
 use Rattle.std.specs.List.{list_any}
 use Rattle.tesla_base.specs.declared.names.Name.{Name}

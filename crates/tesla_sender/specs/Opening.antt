@@ -1,4 +1,4 @@
--- What a sender is opened with, and when it is refused.
+-- What a sender is opened with, and the first chain whose seed is wrong.
 use Rattle.std.specs.Prelude.{◌≡◌, ℕ, ◌^◌, ◌<◌, ◌≤◌, ◌⊎◌, not, List, length, map, find, option_map, slice_index_or, Option, Some, None, Result, Ok, Err}
 use Rattle.std.specs.List.{All, sum_by}
 use Rattle.tesla_sender.specs.declared.refusal.SenderRefusal.{SenderRefusal}

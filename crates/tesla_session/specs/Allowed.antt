@@ -1,4 +1,4 @@
--- What a session needs to be allowed: that links may be asked, and clocks for what links brought, and that outputs may write what is due.
+-- What a session needs to be allowed. Links may be asked, and clocks for what links brought, and outputs may write what is due.
 use Rattle.std.specs.Prelude.{◌≡◌, ℕ, suc, ◌+◌, Bool, true, List, [], ◌∷◌, length, Option, Some}
 use Rattle.tesla_shared.specs.Yields.{Yield, Record}
 use Rattle.tesla_session.specs.Session.{PassSeen, split_pass}

@@ -1,4 +1,4 @@
--- What the workers of a station are seen to do, from their openings to their closings.
+-- What workers are seen to do, and how many calls each may make. It is told from their openings to their closings.
 use Rattle.std.specs.Prelude.{◌≡◌, ◌⊎◌, ◌↔◌, ℕ, suc, ◌-◌, ◌^◌, ◌<◌, ◌≤◌, length, Bool, true, false, List, [], ◌∷◌, ◌++◌, map, codes, slice_set, Option, Some, None, IfSome, Result, Ok, Err}
 use Rattle.std.specs.List.{list_any}
 use denote.Ref.{Bor}

@@ -1,4 +1,4 @@
--- The workers that are wanted of a session: one for each link, and one for each sink.
+-- The workers that are wanted: one for each link, and one for each sink.
 use Rattle.std.specs.Prelude.{ℕ, suc, List, [], ◌∷◌, ◌++◌}
 use Rattle.tesla_desk.specs.Outside.{Opening, OfSink, OfLink}
 

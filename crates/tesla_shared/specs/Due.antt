@@ -1,4 +1,4 @@
--- What may be written of answers to takes while the workers run: it holds at each call of the outside, whether or not a run ends.
+-- What workers may write of answers to takes, whether or not a run ends. It holds at each call of the outside.
 use Rattle.std.specs.Prelude.{◌≡◌, ℕ, ◌+◌, Bool, true, List, [], ◌∷◌, ◌++◌, length, Option, Some, IfSome}
 use Rattle.tesla_desk.specs.Outside.{with_bytes}
 use Rattle.tesla_receiver.specs.declared.history.Arrival.{Arrival}

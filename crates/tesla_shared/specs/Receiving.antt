@@ -1,4 +1,4 @@
--- What the workers come to where the station answers as a receiver of one stream.
+-- What workers come to at a receiver of one stream.
 use Rattle.std.specs.Prelude.{◌≡◌, ℕ, Bool, List, [], length, slice_index_or, Option}
 use Rattle.std.specs.List.{Contains}
 use Rattle.tesla_base.specs.declared.release.Head.{Head}

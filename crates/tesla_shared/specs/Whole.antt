@@ -1,4 +1,4 @@
--- What the calls of the workers of a station come to in its whole history.
+-- What the calls of a station's workers come to in its whole history.
 use Rattle.std.specs.Prelude.{◌≡◌, ℕ, suc, ◌+◌, ◌<◌, ◌==◌, nat_lt, Bool, true, List, [], ◌∷◌, ◌++◌, length, map, flat_map, count_by, slice_index_or, Option, Some, if◌then◌else◌}
 use Rattle.std.specs.List.{list_all, enumerate_from}
 use Rattle.tesla_receiver.specs.declared.history.Arrival.{Arrival}

@@ -1,4 +1,4 @@
--- What the workers of a station do: the calls of their passes, against what links and clocks tell and sinks hold.
+-- What workers do: the calls of their passes, against links, clocks and sinks.
 use Rattle.std.specs.Prelude.{◌≡◌, ℕ, ◌+◌, ◌-◌, ◌^◌, ◌≤◌, ◌==◌, Bool, true, List, [], ◌∷◌, ◌++◌, length, map, Option, Some, None}
 use Rattle.std.specs.List.{list_all}
 use Rattle.tesla_desk.specs.Outside.{AppendsPrefix, with_bytes}

@@ -1,4 +1,4 @@
--- The counts of verdicts: where each stands in a report, and that each can be one greater.
+-- The counts of verdicts: where each stands in a report. Also that each can be one greater.
 use Rattle.std.specs.Prelude.{ℕ, ◌<◌}
 use Rattle.tesla_state.specs.declared.report.Report.{Report}
 use Rattle.tesla_fitting.specs.declared.verdict.Verdict.{Verdict}

@@ -1,4 +1,4 @@
--- Held packets that are tried interval by interval, from the newest interval down.
+-- Held packets that are tried interval by interval, from the newest down.
 use Rattle.std.specs.Prelude.{ℕ, List, filter, flat_map}
 use Rattle.tesla_walks.specs.Holding.{Holding}
 use Rattle.tesla_state.specs.Steps.{in_interval}

@@ -1,5 +1,4 @@
--- What a receiver keeps: the newest keys, the packets that have a slot, those that wait to be given, which ingests
--- have ended, and the counts.
+-- What a receiver keeps. These are the newest keys, the packets that have a slot, those that wait to be given, which ingests have ended, and the counts.
 use Rattle.std.specs.Prelude.{ℕ, Bool, List}
 use Rattle.tesla_keys.specs.Tip.{Tip}
 use Rattle.tesla_walks.specs.Holding.{Holding}

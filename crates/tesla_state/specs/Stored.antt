@@ -1,4 +1,4 @@
--- What contracts see of the packets that have a slot, and of those that wait to be taken.
+-- What contracts see of packets that have a slot. Also of those that wait to be taken.
 use Rattle.std.specs.Prelude.{◌≡◌, ℕ, ◌≤◌, Bool, true, false, not, ◌&&◌, ◌||◌, List, [], ◌∷◌, length, map, take, filter, find, Option, Some, None, cond, All, nat_lt, nat_le, drop, flat_map, min, ◌+◌, ◌-◌, ◌^◌, ◌==◌, if◌then◌else◌}
 use Rattle.std.specs.List.{list_any, list_all}
 use Rattle.tesla_base.specs.declared.names.Name.{Name}

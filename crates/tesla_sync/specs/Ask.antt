@@ -1,4 +1,4 @@
--- An ask for the sender's time (RFC 4082, section 3.3.1). The format is the project's own.
+-- An ask for the sender's time: its spelling, and what is read of it. See RFC 4082, section 3.3.1. The format is the project's own.
 use Rattle.std.specs.Prelude.{◌≡◌, ℕ, ◌<◌, ◌^◌, List, [], ◌∷◌, ◌++◌, Option, Some, None, bytes_eq, if◌then◌else◌, codes}
 use Rattle.std.specs.Int.{w64, to_be_bytes}
 use Rattle.tesla_base.specs.Field.{number_at}

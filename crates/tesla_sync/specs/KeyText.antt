@@ -1,4 +1,4 @@
--- The text of the key that a sender and a receiver share.
+-- The text of the shared key, and what is read of it.
 use Rattle.std.specs.Prelude.{◌≡◌, ℕ, ◌==◌, List, ◌++◌, length, take, Option, Some, None, Result, Ok, Err, bytes_eq, if◌then◌else◌, codes}
 use Rattle.hex.specs.Hex.{decode_sized, encode_lower, IsBytes}
 use Rattle.hex.specs.declared.error.FromHexError.{FromHexError}

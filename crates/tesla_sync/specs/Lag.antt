@@ -1,4 +1,4 @@
--- By how much the sender's clock may be ahead of the receiver's (RFC 4082, section 3.3.1).
+-- How far the sender's clock may be ahead (RFC 4082, section 3.3.1).
 use Rattle.std.specs.Prelude.{ℕ, ◌-◌, ◌^◌, ◌&&◌, Bool, ℤ, pos, negsuc, ◌+ℤ◌, ◌-ℤ◌, int_le, Result, Ok, Err, if◌then◌else◌}
 use Rattle.tesla_sync.specs.declared.lag.LagTooLarge.{LagTooLarge}
 

@@ -1,4 +1,4 @@
--- A reply with the sender's time (RFC 4082, section 3.3.1). The format is the project's own.
+-- A reply with the sender's time: its spelling, and what is read of it. See RFC 4082, section 3.3.1. The format is the project's own.
 use Rattle.std.specs.Prelude.{◌≡◌, ℕ, ◌<◌, ◌^◌, ◌==◌, ◌&&◌, List, [], ◌∷◌, ◌++◌, length, take, Option, Some, None, Result, Ok, Err, bytes_eq, if◌then◌else◌, codes}
 use Rattle.std.specs.Int.{w64, to_be_bytes}
 use Rattle.tesla_base.specs.Field.{number_at}

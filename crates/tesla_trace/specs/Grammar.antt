@@ -1,4 +1,4 @@
--- The grammars of traces and of tails.
+-- The grammars of traces and of tails, and the limits of their entries.
 use Rattle.std.specs.Prelude.{◌≡◌, ℕ, ◌<◌, ◌≤◌, ◌^◌, List, length, Some}
 use Rattle.tesla_base.specs.Prefix.{AreBytes}
 use Rattle.tesla_base.specs.declared.release.Head.{Head}

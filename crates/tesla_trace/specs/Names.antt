@@ -1,4 +1,4 @@
--- The names of the kinds, as they are printed.
+-- The names of the kinds of refused entries, as they are printed.
 use Rattle.std.specs.Prelude.{ℕ, List, codes}
 use Rattle.tesla_trace.specs.declared.kind.TraceKind.{TraceKind}
 use Rattle.tesla_trace.specs.declared.kind.TraceKind.TheVariants.{BadHead, BadKind, Truncated, TooLong, TooLarge, BadCode}

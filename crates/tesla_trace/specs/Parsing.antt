@@ -1,4 +1,4 @@
--- Heads and entries of a trace read from left to right, as far as the bytes tell.
+-- What the bytes of a trace tell that were read so far. They are read from left to right.
 use Rattle.std.specs.Prelude.{ℕ, zero, suc, ◌-◌, ◌&&◌, List, [], ◌∷◌, ◌++◌, length, Option, Some, None, nat_lt, nat_le, ◌==◌, if◌then◌else◌, codes}
 use Rattle.std.specs.Int.{Width, w16, w32, w64}
 use Rattle.tesla_base.specs.Prefix.{parse_bytes, parse_number}

@@ -1,4 +1,4 @@
--- Traces: the history of a receiver, with every answer, as a file. The format is the project's own.
+-- The spelling of traces and of tails. A trace is a file of a receiver's history, with every answer. The format is the project's own.
 use Rattle.std.specs.Prelude.{ℕ, List, [], ◌∷◌, ◌++◌, length, flat_map, codes, Some, None}
 use Rattle.std.specs.Int.{w16, w64, to_be_bytes}
 use Rattle.tesla_capture.specs.Release.{release_text}

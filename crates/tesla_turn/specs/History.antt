@@ -1,4 +1,4 @@
--- The history of a value that threads share by turns, and the calls of one pass in it.
+-- The history of a value that threads share, and one pass's calls in it.
 use Rattle.std.specs.Prelude.{◌≡◌, ℕ, ◌==◌, ◌<◌, ◌≤◌, ltb, List, [], ◌∷◌, ◌++◌, map, length, slice_index_or, slice_set, Option, Some, None, if◌then◌else◌}
 use Rattle.tesla_turn.specs.declared.view.Call.{Call}
 

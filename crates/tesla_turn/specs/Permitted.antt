@@ -1,4 +1,4 @@
--- Which calls of a history were permitted.
+-- Which calls of a history were permitted, each behind those of its pass before.
 use Rattle.std.specs.Prelude.{◌≡◌, ℕ, List, ◌∷◌, ◌++◌, Some}
 use Rattle.tesla_turn.specs.declared.view.Call.{Call}
 use Rattle.tesla_turn.specs.History.{calls_by}

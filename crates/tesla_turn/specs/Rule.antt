@@ -1,4 +1,4 @@
--- The rule of the table: word 0 counts the tickets that were drawn, word 1 the turns that were passed, and the slot is the value's.
+-- The rule of the table. Word 0 counts the tickets that were drawn, word 1 the turns that were passed, and the slot is the value's.
 use Rattle.std.specs.Prelude.{◌≡◌, ◌⊎◌, ℕ, ◌+◌, ◌^◌, ◌<◌, ◌≤◌, List, [], ◌∷◌, length, Option, Some, None}
 use mathlib.Core.Option.{some}
 use lib.ListN.{get_elem?}

@@ -1,4 +1,4 @@
--- The views of the first pass and of a split and a join, and what each step on the table tells.
+-- What each step on the table tells. Also the views of the first pass, and of a split and a join.
 use Rattle.std.specs.Prelude.{◌≡◌, ◌≢◌, ℕ, ◌+◌, ◌*◌, ◌-◌, ◌^◌, ◌<◌, ◌≤◌, List, [], ◌∷◌, ◌++◌, length, slice_set, Option, Some, None}
 use Rattle.atomic_table.specs.Table.{Me, Step}
 use Rattle.atomic_table.specs.Seated.{TableId}

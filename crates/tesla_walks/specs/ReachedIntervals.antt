@@ -1,4 +1,4 @@
--- The intervals that new keys span, and those that they are the first of their chains to reach.
+-- The intervals that new keys span, and those that they are first to reach. They are the first of their chains there.
 use Rattle.std.specs.Prelude.{ℕ, ◌-◌, ◌^◌, ◌<◌, ◌≤◌, ◌≡◌, Bool, true, false, ◌&&◌, List, All, fold, get_or, length, max, min, nat_lt, nat_le, Option, Some, None}
 use Rattle.std.specs.List.{list_any}
 use Rattle.tesla_frame.specs.declared.row.KeyRow.{KeyRow}

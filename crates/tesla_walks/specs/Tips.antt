@@ -1,4 +1,4 @@
--- The newest keys of the chains: at first, at a chain, and with keys that are taken.
+-- The newest keys of the chains. They are those at first, at a chain, and with keys that are taken.
 use Rattle.std.specs.Prelude.{ℕ, ◌&&◌, Bool, List, map, not, fold, get_or, replicate, nat_lt, if◌then◌else◌}
 use Rattle.std.specs.List.{enumerate_from}
 use Rattle.tesla_frame.specs.declared.row.KeyRow.{KeyRow}

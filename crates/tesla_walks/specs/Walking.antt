@@ -1,4 +1,4 @@
--- Walks back from new keys, as contracts see them, and what they cost in evaluations of HMAC.
+-- Walks back from new keys, and what they cost in evaluations of HMAC.
 use Rattle.std.specs.Prelude.{◌≡◌, ◌≤◌, ℕ, ◌-◌, Bool, false, ◌&&◌, List, map, min, Option, IfSome, nat_lt, nat_le, count_by, if◌then◌else◌}
 use Rattle.std.specs.List.{list_any, sum_by}
 use Rattle.tesla_base.specs.declared.names.Key.{Key}

@@ -1,4 +1,4 @@
--- A sender and a receiver of one stream with the frames that were sent, as the worlds that they stand for.
+-- A sender and a receiver with the frames between them, as worlds.
 use Rattle.std.specs.Prelude.{◌≡◌, ℕ, ◌+◌, ◌<◌, ◌≤◌, ◌++◌, ◌∷◌, [], List, length, map, Option, Some, None, Result, Ok, Err, IsOk}
 use Rattle.tesla_fitting.specs.declared.verdict.Verdict.{Verdict}
 use Rattle.tesla_frame.specs.Frame.{Frame}

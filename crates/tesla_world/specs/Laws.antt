@@ -1,4 +1,4 @@
--- The laws over worlds and histories: what a right clock and an honest stream buy.
+-- The laws: what a right clock and an honest stream buy.
 use Rattle.std.specs.Prelude.{◌≡◌, ◌≢◌, ◌⊎◌, ℕ, ◌-◌, ◌+◌, ◌<◌, ◌≤◌, ℤ, pos, ◌≤ℤ◌, ◌+ℤ◌, ◌-ℤ◌, true, ◌&&◌, List, [], ◌∷◌, take, replicate, get_or, Option, Some, Ok, nat_lt, slice_get}
 use Rattle.std.specs.List.{Contains, list_any}
 use Rattle.tesla_base.specs.declared.names.Key.{Key}

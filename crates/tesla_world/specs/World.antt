@@ -1,4 +1,4 @@
--- Worlds: what was sent and what came, in the order in which it happened, with the readings of the clocks (RFC 4082, sections 3.3 and 3.5).
+-- Worlds: what was sent and what came, in order, with the clocks' readings (RFC 4082, sections 3.3 and 3.5).
 use Rattle.std.specs.Prelude.{◌≡◌, ℕ, ◌<◌, ℤ, pos, ◌≤ℤ◌, ◌+ℤ◌, List, [], ◌∷◌, ◌++◌, length, map, take, Some, slice_get, flat_map}
 use Rattle.tesla_base.specs.declared.names.Key.{Key}
 use Rattle.tesla_fitting.specs.declared.config.Config.{Config}

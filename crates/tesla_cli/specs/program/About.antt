@@ -1,4 +1,4 @@
--- The texts about the program, the words that ask for them, and what printing one comes to.
+-- The texts about the program, and what printing one comes to. Also the words that ask for them.
 use Rattle.std.specs.Prelude.{◌≡◌, ◌≢◌, ◌⊎◌, ℕ, List, [], ◌∷◌, codes}
 use Rattle.tesla_desk.specs.Faults.{HasCauses}
 use Rattle.tesla_desk.specs.Outside.{Told, AsksPrefix}

@@ -1,4 +1,4 @@
--- What the words of the command lag ask for.
+-- Which words are lag, and its files in order.
 use Rattle.std.specs.Prelude.{ℕ, List, [], ◌∷◌, codes}
 use Rattle.tesla_desk.specs.Outside.{Opening, OfSource}
 use Rattle.tesla_front.specs.Forms.{AreSpelled, NameIs, NumberIs, WordIs}

@@ -1,4 +1,4 @@
--- What the command lag does.
+-- What lag comes to.
 use Rattle.std.specs.Prelude.{◌≡◌, ◌≢◌, ℕ, ℤ, Option, Some, None, Result, Ok, Err, List, [], ◌∷◌, ◌++◌, codes, decimal}
 use Rattle.std.specs.Fmt.{signed_decimal}
 use Rattle.tesla_base.specs.declared.names.Key.{Key}

@@ -1,4 +1,4 @@
--- What the words of the command show ask for.
+-- Which words are show, and its file.
 use Rattle.std.specs.Prelude.{ℕ, List, [], ◌∷◌, codes}
 use Rattle.tesla_desk.specs.Outside.{Opening, OfSource}
 use Rattle.tesla_front.specs.Forms.{AreSpelled, NameIs, WordIs}

@@ -1,4 +1,4 @@
--- Lines that are numbered, and what is listed of a file while its records are taken one after another.
+-- Numbered lines, and what is listed while records are taken.
 use Rattle.std.specs.Prelude.{◌≡◌, ℕ, ◌<◌, suc, Option, Some, List, [], ◌∷◌, ◌++◌, length}
 use Rattle.tesla_records.specs.Grammar.{Grammar}
 use Rattle.tesla_records.specs.Records.{Outline, outline_of}

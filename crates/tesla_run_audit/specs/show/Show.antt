@@ -1,4 +1,4 @@
--- What the command show prints, and what it does.
+-- What show comes to, and what it prints.
 use Rattle.std.specs.Prelude.{◌≡◌, ◌⊎◌, ℕ, Option, Some, None, List, [], ◌∷◌, ◌++◌, codes}
 use Rattle.tesla_desk.specs.Outside.{Page}
 use Rattle.tesla_front.specs.OutcomeView.{OutcomeView, Done, Refused, Failed}

@@ -1,4 +1,4 @@
--- What the inner steps of the command come to.
+-- What the inner steps of show come to.
 use Rattle.std.specs.Prelude.{◌≡◌, ℕ, suc, ◌<◌, ◌≤◌, Bool, true, false, Option, Some, None, List, [], ◌++◌}
 use Rattle.tesla_capture.specs.Gathering.{Gathers}
 use Rattle.tesla_desk.specs.Faults.{HasCause}

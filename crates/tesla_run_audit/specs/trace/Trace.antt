@@ -1,4 +1,4 @@
--- What the command trace does.
+-- Which words are trace, what it comes to, and what TRACE holds.
 use Rattle.std.specs.Prelude.{ℕ, List, codes}
 use Rattle.tesla_fitting.specs.declared.config.Config.{Config}
 use Rattle.tesla_front.specs.Command.{Command}

@@ -1,4 +1,4 @@
--- What the words of the command info ask for.
+-- Which words are info, and its file.
 use Rattle.std.specs.Prelude.{ℕ, Option, Some, None, List, [], ◌∷◌, codes}
 use Rattle.tesla_desk.specs.Outside.{Opening, OfSource}
 use Rattle.tesla_front.specs.Forms.{AreSpelled, NameIs, NumberIs, WordIs}

@@ -1,4 +1,4 @@
--- The calendar (ISO 8601): the date and the time of day of a second, counted from the begin of 1970, UTC.
+-- The calendar (ISO 8601): the date and time of a second since 1970, UTC.
 use Rattle.std.specs.Prelude.{◌≡◌, ℕ, zero, suc, ◌+◌, ◌*◌, ◌/◌, ◌%◌, ◌<◌, ◌≤◌, Bool, not, ◌&&◌, ◌||◌, ◌==◌, List, [], ◌∷◌, ◌++◌, take, get_or, codes, decimal, nat_lt, if◌then◌else◌}
 use Rattle.std.specs.List.{sum}
 use Rattle.tesla_run_info.specs.declared.info.calendar.Moment.{Moment}

@@ -1,4 +1,4 @@
--- How much of a stream is left at a reading of the clock, and which reading that is.
+-- How much of a stream is left, and at which reading of the clock.
 use Rattle.std.specs.Prelude.{◌≡◌, ℕ, ◌+◌, ◌-◌, ◌*◌, ◌/◌, ◌^◌, ◌==◌, Bool, IfSome, unwrap_or}
 use Rattle.std.specs.Option.{option_map}
 use Rattle.tesla_clock.specs.Schedule.{Times, interval_of}

@@ -1,4 +1,4 @@
--- Setups in which two chains have the same commitment, and where a setup's text has its chains.
+-- Setups in which two chains have the same commitment. Also where a setup's text has its chains.
 use Rattle.std.specs.Prelude.{◌≡◌, ℕ, ◌+◌, Some, codes}
 use Rattle.tesla_base.specs.declared.version.Version.{Version}
 use Rattle.tesla_base.specs.declared.version.Version.TheVariants.{One, Two}

@@ -1,4 +1,4 @@
--- What the command info does.
+-- What info comes to, and which setups it refuses.
 use Rattle.std.specs.Prelude.{◌≡◌, ◌⊎◌, ℕ, ◌≤◌, Option, None, List, [], ◌∷◌}
 use Rattle.tesla_commit.specs.Equal.{first_equal}
 use Rattle.tesla_commit.specs.Parts.{Parts}

@@ -1,4 +1,4 @@
--- What the command seeds does.
+-- What seeds comes to, and what SECRET-OUT holds.
 use Rattle.std.specs.Prelude.{◌≡◌, ◌⊎◌, ℕ, ◌≤◌, List, [], ◌∷◌, length, codes}
 use Rattle.tesla_base.specs.declared.names.Key.{Key}
 use Rattle.tesla_desk.specs.Outside.{Page}

@@ -1,4 +1,4 @@
--- Which seeds the first bytes of a source are, or why they are none.
+-- Which seeds are drawn of a source, or why there are none.
 use Rattle.std.specs.Prelude.{◌≡◌, ◌⊎◌, ℕ, ◌+◌, ◌*◌, ◌<◌, List, length, take, codes}
 use Rattle.std.specs.List.{flat_map, AllByRecursion}
 use Rattle.tesla_base.specs.declared.names.Key.{Key}

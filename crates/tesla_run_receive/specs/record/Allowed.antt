@@ -1,4 +1,4 @@
--- What record may write to TAIL: it holds at each write, whether or not a run ends.
+-- What record may write to TAIL, whether or not a run ends. It holds at each write.
 use Rattle.std.specs.Prelude.{◌≡◌, ℕ, Bool, true, List, ◌++◌, Option, IfSome}
 use Rattle.tesla_commit.specs.Parts.{Parts}
 use Rattle.tesla_desk.specs.Outside.{Told}

@@ -1,4 +1,4 @@
--- What the words of the command record ask for.
+-- Which words are record.
 use Rattle.std.specs.Prelude.{ℕ, List, codes}
 use Rattle.tesla_run_receive.specs.OutputArguments.{OutputArguments, IsOutputForm}
 use Rattle.tesla_run_receive.specs.declared.output_form.Order.TheVariants.{NumberFirst}

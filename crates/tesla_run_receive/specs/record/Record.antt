@@ -1,4 +1,4 @@
--- What the command record does.
+-- What TAIL of record holds, beside what receive does.
 use Rattle.std.specs.Prelude.{◌≡◌, ℕ, ◌-◌, true, false, List, [], length, Option, IfSome}
 use Rattle.tesla_desk.specs.Live.{Live}
 use Rattle.tesla_desk.specs.Outside.{Page, Untold, Absent, Holds}

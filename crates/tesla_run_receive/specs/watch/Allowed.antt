@@ -1,4 +1,4 @@
--- What watch may write to STATUS: it holds at each write, whether or not a run ends.
+-- What watch may write to STATUS, whether or not a run ends. It holds at each write.
 use Rattle.std.specs.Prelude.{◌≡◌, ℕ, Bool, true, List, [], ◌∷◌, ◌++◌, length, flat_map, Option, IfSome}
 use Rattle.tesla_commit.specs.Parts.{Parts}
 use Rattle.tesla_desk.specs.Outside.{Told}

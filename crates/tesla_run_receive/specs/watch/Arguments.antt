@@ -1,4 +1,4 @@
--- What the words of the command watch ask for.
+-- Which words are watch.
 use Rattle.std.specs.Prelude.{ℕ, List, codes}
 use Rattle.tesla_run_receive.specs.OutputArguments.{OutputArguments, IsOutputForm}
 use Rattle.tesla_run_receive.specs.declared.output_form.Order.TheVariants.{OutputFirst}

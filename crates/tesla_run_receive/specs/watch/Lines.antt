@@ -1,4 +1,4 @@
--- The lines of STATUS: their text, and how one follows another.
+-- The lines of STATUS of watch: their text, and how one follows another.
 use Rattle.std.specs.Prelude.{◌≡◌, ℕ, ◌+◌, ◌≤◌, Bool, true, false, List, [], ◌∷◌, ◌++◌, take, drop, length, slice_index_or, codes}
 use Rattle.std.specs.List.{All}
 use denote.Ref.{Bor}

@@ -1,4 +1,4 @@
--- What the command watch does.
+-- What STATUS of watch holds, beside what receive does.
 use Rattle.std.specs.Prelude.{◌≡◌, ℕ, List, [], length, Option}
 use Rattle.std.specs.List.{sum}
 use Rattle.tesla_desk.specs.Live.{Live}

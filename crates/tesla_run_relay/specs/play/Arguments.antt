@@ -1,4 +1,4 @@
--- What the words of the command play ask for.
+-- Which words are play, and what is opened in order.
 use Rattle.std.specs.Prelude.{ℕ, List, [], ◌∷◌, codes, map}
 use Rattle.tesla_desk.specs.Outside.{Opening, OfPost, OfSource}
 use Rattle.tesla_front.specs.Forms.{AreSpelled, NameIs, NamesAre, WordIs}

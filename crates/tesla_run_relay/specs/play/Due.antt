@@ -1,4 +1,4 @@
--- Which datagram a post is to send next in a run of the command play.
+-- Which datagram a post of play may send next.
 use Rattle.std.specs.Prelude.{◌≡◌, ℕ, Bool, List, map, Option, IfSome}
 use Rattle.std.specs.List.{Contains}
 use Rattle.tesla_desk.specs.Outside.{Page, Told}

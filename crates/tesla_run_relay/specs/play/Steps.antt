@@ -1,4 +1,4 @@
--- A run of the command between its openings and its end.
+-- A run of play between its openings and its end.
 use Rattle.std.specs.Prelude.{◌≡◌, ◌⊎◌, ℕ, List, [], Option, Ok, Err}
 use Rattle.tesla_desk.specs.Clocks.{Ticking}
 use Rattle.tesla_desk.specs.Faults.{HasCause}

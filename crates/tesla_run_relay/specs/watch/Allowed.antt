@@ -1,4 +1,4 @@
--- What watch-relay may write to STATUS: it holds at each write, whether or not a run ends.
+-- What watch-relay may write to STATUS, whether or not a run ends. It holds at each write.
 use Rattle.std.specs.Prelude.{◌≡◌, ◌⊎◌, ℕ, Bool, true, List, flat_map, length, Option, IfSome}
 use Rattle.tesla_run_relay.specs.watch.Arguments.{IsWatchForm, WatchArguments}
 use Rattle.tesla_run_relay.specs.watch.Lines.{Follow, NoneFalls, TallyLine, counts_behind, end_text, no_counts, time_text}

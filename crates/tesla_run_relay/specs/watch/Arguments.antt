@@ -1,4 +1,4 @@
--- What the words of the command watch-relay ask for.
+-- Which words are watch-relay, and what is opened in order.
 use Rattle.std.specs.Prelude.{ℕ, List, [], ◌∷◌, ◌++◌, codes}
 use Rattle.tesla_desk.specs.Outside.{Opening, OfSink}
 use Rattle.tesla_front.specs.Forms.{AreSpelled, NameIs, NamesAre, NumberIs, WordIs}

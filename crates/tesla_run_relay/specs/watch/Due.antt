@@ -1,4 +1,4 @@
--- Which datagram a post is to send next in a run of the command watch-relay, and when its link may be asked: as in one of relay.
+-- The same as Due of relay, for watch-relay.
 use Rattle.std.specs.Prelude.{ℕ, Bool, List, length, Option}
 use Rattle.tesla_relay.specs.Offers.{MayAskNext}
 use Rattle.tesla_run_relay.specs.Due.{IsNextUnder}

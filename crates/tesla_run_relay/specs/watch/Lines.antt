@@ -1,4 +1,4 @@
--- The lines of STATUS: their text, and how one follows another.
+-- The lines of STATUS of watch-relay: their text, and how one follows another.
 use Rattle.std.specs.Prelude.{ℕ, zero, suc, ◌≤◌, List, [], ◌∷◌, ◌++◌, Option, Some, None, codes, decimal}
 use Rattle.tesla_relay.specs.declared.relayed.PostCount.{PostCount}
 use Rattle.tesla_relay.specs.declared.tally.SoFar.{SoFar}

@@ -1,4 +1,4 @@
--- A run of the command between the opening of its link and the closings.
+-- A run of watch-relay between the opening of its link and the closings.
 use Rattle.std.specs.Prelude.{◌≡◌, ◌⊎◌, ◌||◌, ℕ, Bool, List, length, Option, Some, None, Ok, Err}
 use Rattle.std.specs.List.{list_any}
 use Rattle.tesla_desk.specs.Faults.{HasCause}

@@ -1,4 +1,4 @@
--- What the command watch-relay does: what relay does, and STATUS.
+-- What watch-relay does: what relay does, and STATUS.
 use Rattle.std.specs.Prelude.{◌≡◌, ◌⊎◌, ◌||◌, ℕ, suc, Bool, true, false, List, [], ◌∷◌, drop, length, Some, None}
 use Rattle.std.specs.List.{list_any}
 use Rattle.std.specs.Option.{option_map}
