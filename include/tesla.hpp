@@ -130,6 +130,11 @@ public:
 inline std::uint32_t read_setup(bytes text, tesla_setup &setup, tesla_refusal &refusal) noexcept {
     return tesla_read_setup(text.data(), text.size(), &setup, &refusal);
 }
+// The text is the first size bytes of the room.
+inline std::uint32_t make_setup(const tesla_parameters &parameters, bytes seeds, std::uint8_t (&room)[TESLA_MOST_SETUP], std::size_t &size,
+                                tesla_sender_refusal &refusal) noexcept {
+    return tesla_make_setup(&parameters, seeds.data(), seeds.size(), room, sizeof room, &size, &refusal);
+}
 inline std::uint32_t read_frame(bytes datagram, tesla_frame &frame) noexcept {
     return tesla_read_frame(datagram.data(), datagram.size(), &frame);
 }

@@ -281,6 +281,38 @@ def setup_case(program, name, text):
     return Case(name, "setup", {"setup": text}, [], {}, exactly(status, console, {}))
 
 
+def make_case(program, name, secret, words):
+    """A setup is made: what `chain` or `chain2` makes of the same words. Words that are no form have a number that is outside its limits."""
+    version, stream, start, interval, last, tag, delays = words
+    front = f"chain2 made secret {stream} {start} {interval} {last} {tag}" if version == "2" else f"chain made secret {stream} {start} {interval} {last}"
+    [(status, console)], held = program({"secret": secret}, f"{front} {delays.replace(',', ' ')}")
+    if status == 1:
+        status, console = 62, b""
+    return Case(name, "make", {"secret": secret}, words, {}, exactly(status, console, {"made": held.get("made", b"")}))
+
+
+def make_cases(program):
+    """Setups of drawn parameters, with right and altered seeds, and with each number at its limits and outside."""
+    for number in range(DRAWN):
+        draw = Draw(f"{SEED} make {number}")
+        it, seeds = stream_drawn(draw)
+        words = [str(it.version), f"{it.stream:016x}", str(it.times.start), str(it.times.length), str(min(it.times.last, 400)), str(it.tag_length),
+                 ",".join(str(row.delay) for row in it.rows)]
+        yield make_case(program, f"drawn parameters {number}", seeds_text(seeds), words)
+        yield make_case(program, f"drawn parameters {number}, altered seeds", seeds_altered(draw, seeds), words)
+    one = seeds_text((bytes([1]) * 32,))
+    right = ["2", "00000000000000a7", "1000000", "100000", "9", "16", "2"]
+    for place, values in {2: (0, 2 ** 64 - 1), 3: (999, 1_000, 3_600_000_000, 3_600_000_001), 4: (0, 1), 5: (9, 10, 32, 33), 6: (0, 1, 4_096, 4_097)}.items():
+        for value in values:
+            words = [*right[:place], str(value), *right[place + 1:]]
+            yield make_case(program, f"parameters with {value} at place {place}", one, words)
+    for version, count in (("1", 4), ("1", 5), ("2", 8), ("2", 9)):
+        delays = ",".join(str(k + 1) for k in range(count))
+        seeds = seeds_text(tuple(bytes([k + 1]) * 32 for k in range(count)))
+        yield make_case(program, f"{count} chains in version {version}", seeds, [version, *right[1:6], delays])
+    yield make_case(program, "delays that don't rise", seeds_text((bytes([1]) * 32, bytes([2]) * 32)), [*right[:6], "2,2"])
+
+
 def head_told(datagram):
     """The line of a datagram, by the model."""
     it = frame_of(datagram)
@@ -340,5 +372,5 @@ def pure_cases(program):
 
 def all_cases(program):
     """All cases."""
-    for cases in (replay_cases, send_cases, follow_cases, pure_cases):
+    for cases in (replay_cases, send_cases, follow_cases, pure_cases, make_cases):
         yield from cases(program)

@@ -104,6 +104,16 @@ class Player:
         said += [f"chain {k} delay {row.delay} index {row.index} key {row.key.hex()}" for k, row in enumerate(it.chains)]
         return Came(0, "".join(f"{line}\n" for line in said).encode(), {})
 
+    def play_make(self, files, version, stream, start, interval, last, tag_length, delays):
+        """A setup is made."""
+        rows = [int(it) for it in delays.split(",")]
+        try:
+            made = self.tesla.make_setup(files["secret"], int(stream, 16), int(start), int(interval), int(last), rows, int(version),
+                                         int(tag_length))
+        except self.tesla.BadNumber:
+            return Came(62, b"", {})
+        return Came(0, b"chains %d\n" % len(rows), {"made": made})
+
     def play_frames(self, files):
         """The heads of the frames of a capture."""
         said = [self.head_of(datagram) for reading, datagram in records_of(files["capture"], 0) if reading is not None]

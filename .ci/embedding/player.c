@@ -1,6 +1,7 @@
 /* Plays recordings to libtesla as the program does, by a first word:
  *     replay SETUP LAG CAPACITY QUOTA CAPTURE OUT SHOWN       send SETUP SECRET SCRIPT CAPTURE
  *     follow SETUP LAG CAPACITY QUOTA CAPTURE OUT SHOWN       setup SETUP     frames CAPTURE     lag ASK REPLY KEY DRIFT
+ *     make SECRET VERSION STREAM START INTERVAL LAST TAG DELAYS OUT, DELAYS with commas between
  * With FAIL=N in the environment the N-th allocation of the library fails, and with THREADS=N so many threads play under one lock,
  * each the record that is next. At its end it tells on standard error how often memory was asked for at the opening and after it,
  * and how many blocks weren't given back. */
@@ -87,7 +88,8 @@ int main(int count, char **words) {
         const char *name;
         int words;
         int (*part)(char **words);
-    } parts[] = {{"replay", 9, replay}, {"send", 6, send_all}, {"follow", 9, follow}, {"setup", 3, read_setup}, {"frames", 3, read_frames}, {"lag", 6, read_lag}};
+    } parts[] = {{"replay", 9, replay}, {"send", 6, send_all}, {"follow", 9, follow}, {"setup", 3, read_setup}, {"make", 11, make_setup},
+                 {"frames", 3, read_frames}, {"lag", 6, read_lag}};
     fails = getenv("FAIL") ? atol(getenv("FAIL")) : 0;
     for (size_t i = 0; i < sizeof parts / sizeof *parts && tesla_version() == TESLA_VERSION; i++)
         if (1 < count && !strcmp(words[1], parts[i].name) && count == parts[i].words) return parts[i].part(words + 2);

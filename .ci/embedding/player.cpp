@@ -214,6 +214,19 @@ static int read_frames(char **words) {
     return 0;
 }
 
+static int make_setup(char **words) {
+    octets seeds = read_whole(words[0]);
+    tesla_parameters parameters = parameters_of(words + 1);
+    std::uint8_t room[TESLA_MOST_SETUP];
+    std::size_t size = 0;
+    tesla_sender_refusal refusal;
+    std::uint32_t status = tesla::make_setup(parameters, seeds, room, size, refusal);
+    if (status != TESLA_OK) return refused(status, "seeds", refusal.line, refusal.kind);
+    output(words[8]).text(tesla::bytes(room, size));
+    std::printf("chains %" PRIu32 "\n", parameters.chains);
+    return 0;
+}
+
 static int read_lag(char **words) {
     octets ask = read_whole(words[0]), reply = read_whole(words[1]), key = read_whole(words[2]);
     tesla_shared_key shared;
@@ -231,7 +244,8 @@ int main(int count, char **words) {
         const char *name;
         int words;
         int (*part)(char **words);
-    } parts[] = {{"replay", 9, replay}, {"send", 6, send_all}, {"follow", 9, follow}, {"setup", 3, read_setup}, {"frames", 3, read_frames}, {"lag", 6, read_lag}};
+    } parts[] = {{"replay", 9, replay}, {"send", 6, send_all}, {"follow", 9, follow}, {"setup", 3, read_setup}, {"make", 11, make_setup},
+                 {"frames", 3, read_frames}, {"lag", 6, read_lag}};
     for (const auto &it : parts)
         if (1 < count && !std::strcmp(words[1], it.name) && count == it.words) return it.part(words + 2);
     return 9;

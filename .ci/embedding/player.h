@@ -43,6 +43,7 @@ int replay(char **words);
 int send_all(char **words);
 int follow(char **words);
 int read_setup(char **words);
+int make_setup(char **words);
 int read_frames(char **words);
 int read_lag(char **words);
 

@@ -19,6 +19,33 @@ int read_setup(char **words) {
     return 0;
 }
 
+int make_setup(char **words) {
+    static_assert(sizeof(tesla_parameters) == 72, "sizes");
+    size_t length, size = 77;
+    uint8_t *seeds = read_whole(words[0], &length), room[TESLA_MOST_SETUP];
+    tesla_parameters parameters = parameters_of(words + 1);
+    tesla_sender_refusal refusal;
+    memset(room, 0xaa, sizeof room);
+    assert(tesla_make_setup(NULL, seeds, length, room, sizeof room, &size, &refusal) == TESLA_NULL);
+    uint32_t status = counted(tesla_make_setup(&parameters, seeds, length, room, sizeof room, &size, &refusal));
+    for (size_t i = status ? 0 : size; i < sizeof room; i++) assert(room[i] == 0xaa);
+    if (status) {
+        free(seeds);
+        end_refused(status, "seeds", refusal.line, refusal.kind);
+    }
+    size_t small = 77;
+    uint8_t none[1] = {0xaa};
+    assert(tesla_make_setup(&parameters, seeds, length, none, size - 1 < 1 ? size - 1 : 1, &small, &refusal) == TESLA_TOO_SMALL);
+    assert(small == size && none[0] == 0xaa);
+    free(seeds);
+    FILE *made = opened(words[8]);
+    fwrite(room, 1, size, made);
+    fclose(made);
+    printf("chains %" PRIu32 "\n", parameters.chains);
+    tell_memory(asked, 0);
+    return 0;
+}
+
 int read_frames(char **words) {
     static_assert(sizeof(tesla_frame) == 32, "sizes");
     size_t length;

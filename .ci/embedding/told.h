@@ -5,6 +5,8 @@
 #include "tesla.h"
 #include <inttypes.h>
 #include <stdio.h>
+#include <stdlib.h>
+#include <string.h>
 
 static inline uint64_t big(const uint8_t *at, int bytes) {
     uint64_t value = 0;
@@ -67,6 +69,24 @@ static inline void tell_setup(const tesla_setup *it) {
         for (int i = 0; i < 32; i++) printf("%02x", it->rows[k].key[i]);
         putchar('\n');
     }
+}
+
+/* The parameters of a setup, of words: version, stream, start, interval, last interval, bytes of a tag, and delays with commas between. */
+static inline tesla_parameters parameters_of(char **words) {
+    tesla_parameters it;
+    memset(&it, 0, sizeof it);
+    it.version = (uint32_t)strtoul(words[0], NULL, 10);
+    it.stream = strtoull(words[1], NULL, 16);
+    it.start = strtoull(words[2], NULL, 10);
+    it.interval = strtoull(words[3], NULL, 10);
+    it.last = (uint32_t)strtoul(words[4], NULL, 10);
+    it.tag_length = (uint32_t)strtoul(words[5], NULL, 10);
+    for (char *at = words[6]; *at; it.chains++) {
+        uint32_t delay = (uint32_t)strtoul(at, &at, 10);
+        if (it.chains < 8) it.delays[it.chains] = delay;
+        if (*at == ',') at++;
+    }
+    return it;
 }
 
 /* What an exchange of times comes to, as `lag` tells it. */

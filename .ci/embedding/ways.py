@@ -18,8 +18,8 @@ SANITIZERS = {"addresses": ("-fsanitize=address,undefined", {"ASAN_OPTIONS": "de
 STANDARDS = ("c++11", "c++14", "c++17", "c++20")
 # What each first word reads, in order, and what it writes.
 READS = {"replay": ("setup", "capture"), "follow": ("setup", "capture"), "send": ("setup", "secret", "script"), "setup": ("setup",),
-         "frames": ("capture",), "lag": ("ask", "reply", "key")}
-WRITES = {"replay": ("out", "shown"), "follow": ("out", "shown"), "send": ("out",)}
+         "make": ("secret",), "frames": ("capture",), "lag": ("ask", "reply", "key")}
+WRITES = {"replay": ("out", "shown"), "follow": ("out", "shown"), "send": ("out",), "make": ("made",)}
 
 
 def arranged(mode, words):

@@ -23,9 +23,9 @@ from ._receiving import Kind, Report
 from .follower import Acceptance, Follower, FollowReport, FollowVerdict, Record
 from .receiver import Message, Receiver, Verdict
 from .sender import Sender
-from .texts import Chain, Frame, Setup, lag, read_frame, read_setup
+from .texts import Chain, Frame, Setup, lag, make_setup, read_frame, read_setup
 
 __version__ = "0.1.0"
 __all__ = ["Acceptance", "BadNumber", "Cause", "Chain", "Closed", "Error", "Follower", "FollowReport", "FollowVerdict", "Frame", "Kind",
            "Message", "Receiver", "Record", "Refused", "Report", "Sender", "Setup", "Spent", "Unsent", "Verdict", "lag",
-           "library_version", "read_frame", "read_setup"]
+           "library_version", "make_setup", "read_frame", "read_setup"]

@@ -3,7 +3,7 @@ import ctypes
 import os
 from ctypes import POINTER, c_char_p, c_int64, c_size_t, c_uint8, c_uint32, c_uint64, c_void_p
 
-from ._structures import CFollowReport, CFrame, CReport, CSetup, Refusal, SenderRefusal
+from ._structures import CFollowReport, CFrame, CParameters, CReport, CSetup, Refusal, SenderRefusal
 
 NAME = "libtesla.so.0"
 # The version of the header whose functions stand here.
@@ -33,6 +33,7 @@ SIGNATURES = {
     "follower_waiting": (c_void_p, POINTER(c_uint64)),
     "follower_close": (c_void_p,),
     "setup_read": (c_char_p, c_size_t, POINTER(CSetup), POINTER(Refusal)),
+    "setup_make": (POINTER(CParameters), c_char_p, c_size_t, c_char_p, c_size_t, POINTER(c_size_t), POINTER(SenderRefusal)),
     "frame_read": (c_char_p, c_size_t, POINTER(CFrame)),
     "lag_of": (c_char_p, c_char_p, c_size_t, c_char_p, c_size_t, c_uint32, POINTER(c_int64), POINTER(c_uint32)),
     "version": (),

@@ -5,6 +5,8 @@ NUMBERS = "arrivals malformed foreign misfit future badkey late repeat full kept
 FOLLOW_NUMBERS = "epochs open_epochs early unqueued dropped records".split()
 # The frame of a sender has this room.
 MOST_DATAGRAM, MOST_PAYLOAD = 2048, 1200
+# No text of a setup is longer.
+MOST_SETUP = 4096
 
 
 class Slot(Structure):
@@ -56,6 +58,11 @@ class CChain(Structure):
 class CSetup(Structure):
     _fields_ = [*((it, c_uint64) for it in ("stream", "start", "interval")),
                 *((it, c_uint32) for it in ("last", "version", "tag_length", "chains")), ("rows", CChain * 8)]
+
+
+class CParameters(Structure):
+    _fields_ = [*((it, c_uint64) for it in ("stream", "start", "interval")),
+                *((it, c_uint32) for it in ("last", "version", "tag_length", "chains")), ("delays", c_uint32 * 8)]
 
 
 class CFrame(Structure):

@@ -1,10 +1,10 @@
 """What texts, datagrams and exchanges of times tell. Nothing is kept."""
 import ctypes
-from typing import NamedTuple, Optional, Tuple
+from typing import NamedTuple, Optional, Sequence, Tuple
 
-from ._errors import KINDS, REFUSED, Refused, failed, within
+from ._errors import KINDS, REFUSED, BadNumber, Refused, failed, within
 from ._library import bytes_of, calls
-from ._structures import CFrame, CSetup, Refusal
+from ._structures import MOST_SETUP, CFrame, CParameters, CSetup, Refusal, SenderRefusal
 
 # Of which text a refused exchange tells, and why.
 EXCHANGES = {1: ("ask", "BadAsk"), 2: ("reply", "Malformed"), 3: ("reply", "BadTag"), 4: ("reply", "OtherAsk"), 5: ("reply", "TooLarge")}
@@ -52,6 +52,35 @@ def read_setup(text: bytes) -> Setup:
         raise failed(status)
     chains = tuple(Chain(row.delay, row.index, bytes(row.key)) for row in it.rows[:it.chains])
     return Setup(it.stream, it.start, it.interval, it.last, it.version, it.tag_length, chains)
+
+
+def _parameters(stream, start, interval, last, delays, version, tag_length):
+    """The structure of these numbers, each within its limits."""
+    most = (1 << 64) - 1
+    within("stream", stream, 0, most), within("start", start, 0, most)
+    within("interval", interval, 1000, 3_600_000_000), within("last", last, 1, 1 << 20)
+    within("version", version, 1, 2)
+    within("tag_length", tag_length, *((16, 16) if version == 1 else (10, 32)))
+    if not 1 <= len(delays) <= 4 * version:
+        raise BadNumber("delays", len(delays), 1, 4 * version)
+    for before, delay in zip((0, *delays), delays):
+        within("delay", delay, before + 1, 4096)
+    return CParameters(stream, start, interval, last, version, tag_length, len(delays), (ctypes.c_uint32 * 8)(*delays))
+
+
+def make_setup(seeds: bytes, stream: int, start: int, interval: int, last: int, delays: Sequence[int], version: int = 1,
+               tag_length: int = 16) -> bytes:
+    """The text of the setup whose chains commit to the keys to which the seeds of this text lead: as many seeds as delays, which are
+    of 1 to 4096 intervals and rise. Interval 0 begins at `start`, and an interval has `interval` microseconds. It takes a second or
+    two for a chain of a million keys. Refused tells the line and the kind of the seeds."""
+    seeds, told = bytes_of(seeds), _parameters(stream, start, interval, last, delays, version, tag_length)
+    room, size, refusal = ctypes.create_string_buffer(MOST_SETUP), ctypes.c_size_t(), SenderRefusal()
+    status = calls["setup_make"](told, seeds, len(seeds), room, MOST_SETUP, size, refusal)
+    if status == REFUSED:
+        raise Refused("seeds", refusal.line, KINDS[refusal.kind])
+    if status:
+        raise failed(status)
+    return room.raw[:size.value]
 
 
 def read_frame(datagram: bytes) -> Optional[Frame]:
