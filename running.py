@@ -219,15 +219,15 @@ def frames_of(program, folder, script):
 # ---- stored runs
 
 def stored(group):
-    """The runs of a folder of .ci, each of which has a folder of its own there: words, inputs, and what is expected. An output that
+    """The runs of a folder of tests, each of which has a folder of its own there: words, inputs, and what is expected. An output that
     isn't there is one that isn't made."""
-    names = sorted(os.listdir(f"{TOP}/.ci/{group}"))
-    return [stored_run(group, name) for name in names if os.path.isdir(f"{TOP}/.ci/{group}/{name}")]
+    names = sorted(os.listdir(f"{TOP}/tests/{group}"))
+    return [stored_run(group, name) for name in names if os.path.isdir(f"{TOP}/tests/{group}/{name}")]
 
 
 def stored_run(group, name):
-    """The run of this name in a folder of .ci: its name, its line, the status, what is printed, its outputs and its inputs."""
-    folder = f"{TOP}/.ci/{group}/{name}"
+    """The run of this name in a folder of tests: its name, its line, the status, what is printed, its outputs and its inputs."""
+    folder = f"{TOP}/tests/{group}/{name}"
     words, status = (read(f"{folder}/{it}").decode().splitlines() for it in ("words", "status"))
     inputs, outputs = ({it: read(f"{folder}/{it}") for it in names if it in words} for names in (INPUTS, OUTPUTS))
     return f"{words[0]}: {name}", " ".join(words), int(status[0]), read(f"{folder}/console"), outputs, inputs

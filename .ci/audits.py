@@ -1,6 +1,6 @@
 """Runs of audit, and of show over traces that are refused, for .ci/texts.
 
-A trace whose answers are right comes from .ci/histories.py, or is one of .ci/trace, which another program made. Here one thing
+A trace whose answers are right comes from .ci/histories.py, or is one of tests/trace, which another program made. Here one thing
 of it is altered: so the right answer is the one that stood there before, or one that docs/PROTOCOL.md gives. Each run of several
 lines audits several files, of which each has another fault.
 """

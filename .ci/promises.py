@@ -1,6 +1,6 @@
 """Runs of weave and early, for .ci/texts.
 
-What is expected is made here and spelled by the model; the runs of .ci/early were made by another program. Each case is as in
+What is expected is made here and spelled by the model; the runs of tests/early were made by another program. Each case is as in
 .ci/texts. The cases of early are of the stream of crates/tesla/data.
 """
 import collections

@@ -1,6 +1,6 @@
 """Runs of trace and show, for .ci/texts.
 
-What is expected is made here and spelled by the model; the runs of .ci/trace were made by another program. Each case is as in
+What is expected is made here and spelled by the model; the runs of tests/trace were made by another program. Each case is as in
 .ci/texts.
 """
 from program import OPEN
